@@ -1,0 +1,5 @@
+pub mod Weights
+pub mod Laws
+pub mod Shares
+pub mod Running
+pub mod Largest
