@@ -14,11 +14,11 @@ use Rattle.std.proofs.shelf.Lists.{length-map, getD-map}
 use Rattle.std.proofs.shelf.Sums.{sum-map}
 use Rattle.std.proofs.shelf.Tests.{cases-lt, lt-ltb, le-ltb}
 use Rattle.prorating.specs.Weights.{Weighed}
-use Rattle.prorating.specs.Laws.{is-shared, Near}
+use Rattle.prorating.specs.Laws.{is-shared, Near, Keeps}
 use Rattle.prorating.specs.Largest.{floors, remainders, cents-left, rank, odd-cent, largest-share, largest, floor-at, remainder-at, Largest-remainders}
 use Rattle.prorating.proofs.Counts.{sum-to, bit, count-to, places-sum, count-small, sum-to-add, sum-to-mul, sum-to-le, sum-to-same}
 use Rattle.prorating.proofs.Ranks.{rank-count, rank-last, rank-means}
-use Rattle.prorating.proofs.SharedBy.{shared-some, shared-long, shared-at}
+use Rattle.prorating.proofs.SharedBy.{shared-some, shared-none, shared-long, shared-at, shared-zero}
 
 module _ (pot : ℕ) (ws : List ℕ) where
   pub floors-long : length (floors pot ws) ≡ length ws
@@ -145,7 +145,7 @@ module _ (pot : ℕ) (ws : List ℕ) where
           cents-given,
         )
 
-    pub largest-near : (k : ℕ) → k < length ws → Near pot (sum ws) (getD ws k 0) (largest-share pot ws k)
+    largest-near : (k : ℕ) → k < length ws → Near pot (sum ws) (getD ws k 0) (largest-share pot ws k)
     largest-near k h =
         rw (share-is k h)
         (⊎-elim
@@ -153,7 +153,7 @@ module _ (pot : ℕ) (ws : List ℕ) where
         (λ one. rw (one .0) (record { above = omega (arith, exact k, remainder-below k, one .1); below = omega (arith, exact k, remainder-below k) }))
         (cent-cases k h))
 
-    pub largest-weightless : (k : ℕ) → k < length ws → getD ws k 0 ≡ 0 → largest-share pot ws k ≡ 0
+    largest-weightless : (k : ℕ) → k < length ws → getD ws k 0 ≡ 0 → largest-share pot ws k ≡ 0
     largest-weightless k h e =
         let f : floor-at pot ws k ≡ 0 = rw (e, mul-zero, zero-div) in
         let r : remainder-at pot ws k ≡ 0 = rw (e, mul-zero, zero-mod) in
@@ -166,7 +166,7 @@ module _ (pot : ℕ) (ws : List ℕ) (w : Weighed ws) (shares : is-shared pot ws
   at : (k : ℕ) → k < 48 → getD (largest pot ws) k 0 ≡ floor-at pot ws k + odd-cent pot ws k
   at k h = shared-at (largest-share pot ws) pot ws w shares k h ∙ share-is pot ws some k (omega arith)
 
-  pub largest-whole : sum (largest pot ws) ≡ pot
+  largest-whole : sum (largest pot ws) ≡ pot
   largest-whole =
       let long = shared-long (largest-share pot ws) pot ws w in
       let by-place = places-sum (λ x. x) (largest pot ws) in
@@ -190,3 +190,14 @@ module _ (pot : ℕ) (ws : List ℕ) (w : Weighed ws) (shares : is-shared pot ws
             subst (λ r. (r < remainder-at pot ws j) ⊎ ((remainder-at pot ws j ≡ r) × (j < k))) (remainders-at pot ws k in-k)
             (subst (λ r. (getD (remainders pot ws) k 0 < r) ⊎ ((r ≡ getD (remainders pot ws) k 0) × (j < k))) (remainders-at pot ws j in-j) means);
       }
+
+-- the largest-remainder rule keeps the laws
+pub largest-keeps : Keeps largest
+largest-keeps =
+    record {
+      long = λ pot ws w. shared-long (largest-share pot ws) pot ws w;
+      nothing = λ pot ws w none. shared-none (largest-share pot ws) pot ws w none;
+      whole = largest-whole;
+      near = λ pot ws k w shares h. rw (shared-at (largest-share pot ws) pot ws w shares k h) (largest-near pot ws (shared-some pot ws shares) k (omega arith));
+      weightless = λ pot ws k w h e. shared-zero (largest-share pot ws) pot ws w k h (λ shares. largest-weightless pot ws (shared-some pot ws shares) k (omega arith) e);
+    }

@@ -14,9 +14,9 @@ use Rattle.std.proofs.shelf.Lists.{take-all}
 use Rattle.std.proofs.shelf.Sums.{sumBy-more}
 use Rattle.std.proofs.shelf.Tests.{cases-lt}
 use Rattle.prorating.specs.Weights.{Weighed}
-use Rattle.prorating.specs.Laws.{is-shared, Near}
+use Rattle.prorating.specs.Laws.{is-shared, Near, Keeps}
 use Rattle.prorating.specs.Running.{part-to, running-share, running, Running-sums}
-use Rattle.prorating.proofs.SharedBy.{shared-some, shared-long, shared-at}
+use Rattle.prorating.proofs.SharedBy.{shared-some, shared-none, shared-long, shared-at, shared-zero}
 
 -- a quotient rounded down does not fall where the dividend grows
 floor-grows : (a b t : ℕ) → 0 < t → a / t ≤ (a + b) / t
@@ -54,13 +54,13 @@ module _ (pot : ℕ) (ws : List ℕ) where
   unfolding running-share
   share-after pos k h = omega (arith, part-grows pos k h)
 
-  pub share-near : 0 < sum ws → (k : ℕ) → k < length ws → Near pot (sum ws) (getD ws k 0) (running-share pot ws k)
+  share-near : 0 < sum ws → (k : ℕ) → k < length ws → Near pot (sum ws) (getD ws k 0) (running-share pot ws k)
   unfolding part-to
   share-near pos k h =
       let n = floor-near (pot * sum (take k ws)) (pot * getD ws k 0) (sum ws) (part-to pot ws k) (running-share pot ws k) pos refl (sym (part-more k h) ∙ share-after pos k h) in
       record { above = n .0; below = n .1 }
 
-  pub share-weightless : (k : ℕ) → k < length ws → getD ws k 0 ≡ 0 → running-share pot ws k ≡ 0
+  share-weightless : (k : ℕ) → k < length ws → getD ws k 0 ≡ 0 → running-share pot ws k ≡ 0
   unfolding running-share part-to
   share-weightless k h e =
       let same : sum (take (k + 1) ws) ≡ sum (take k ws) = omega (arith, sum-more ws k h) in
@@ -92,7 +92,18 @@ module _ (pot : ℕ) (ws : List ℕ) (w : Weighed ws) (shares : is-shared pot ws
   running-sums k = prefix k
 
   -- so all of them come to the pot
-  pub running-whole : sum (running pot ws) ≡ pot
+  running-whole : sum (running pot ws) ≡ pot
   running-whole =
       let all = ap sum (take-all 48 (running pot ws) (omega (arith, shared-long (running-share pot ws) pot ws w))) in
       omega (arith, prefix 48, part-all pot ws (shared-some pot ws shares) 48 (omega arith))
+
+-- the running rule keeps the laws
+pub running-keeps : Keeps running
+running-keeps =
+    record {
+      long = λ pot ws w. shared-long (running-share pot ws) pot ws w;
+      nothing = λ pot ws w none. shared-none (running-share pot ws) pot ws w none;
+      whole = running-whole;
+      near = λ pot ws k w shares h. rw (shared-at (running-share pot ws) pot ws w shares k h) (share-near pot ws (shared-some pot ws shares) k (omega arith));
+      weightless = λ pot ws k w h e. shared-zero (running-share pot ws) pot ws w k h (λ _. share-weightless pot ws k (omega arith) e);
+    }

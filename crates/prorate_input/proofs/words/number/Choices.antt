@@ -1,0 +1,8 @@
+-- The bytes so far are digits, and n is their value.
+use mathlib.Core.Path.{_≡_}
+use lib.ListN.{take}
+use Rattle.std.specs.Reads.{value, Digits}
+use Rattle.prorate_input.proofs.words.number.Given as given
+
+abbrev pub Inv-loop-b : given.InvT-loop-b
+Inv-loop-b l = Digits 10 (take (l .b-index) (l .field)) × (l .n ≡ value 10 (take (l .b-index) (l .field)))
