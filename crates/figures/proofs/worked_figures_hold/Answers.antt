@@ -1,0 +1,11 @@
+-- By computation.
+use mathlib.Core.Path.{refl}
+use Rattle.prorating.specs.Weights.{padded}
+use Rattle.prorating.specs.Shares.{shared-by}
+use Rattle.prorating.specs.Running.{part-to, running-share}
+use Rattle.prorating.specs.Largest.{floors, remainders, cents-left, rank, odd-cent, largest-share}
+use Rattle.figures.proofs.worked_figures_hold.Needs as need
+
+pub returns : need.returns
+unfolding padded shared-by part-to running-share floors remainders cents-left rank odd-cent largest-share
+returns c = refl

@@ -1,0 +1,70 @@
+-- The worked figures: what the definitions of factors, worths and shares have to give, in one table.
+use mathlib.Core.Path.{_≡_}
+use mathlib.Core.Bool.{Bool, true, false, cond, _&&_}
+use mathlib.Core.List.{List, [], _∷_}
+use Prim.Native.Nat.{ℕ}
+use lib.Dec.{eqb}
+use lib.ListN.{take}
+use Rattle.prorating.specs.Weights.{padded}
+use Rattle.prorating.specs.Running.{running}
+use Rattle.prorating.specs.Largest.{largest}
+use Rattle.worth.specs.declared.family.Family.the-variants.{Frequency, Voltage}
+use Rattle.worth.specs.declared.line.Line.the-variants.{UpwardActivation, Downward, Opportunity, ExtraResource}
+use Rattle.worth.specs.declared.performance.Performance.{Performance}
+use Rattle.worth.specs.Performances.{factor, rewarded}
+use Rattle.worth.specs.Lines.{worth}
+
+-- What a definition gives, and the worked figures that it has to give.
+pub record Row : Type 0 where
+  pub given : List ℕ
+  pub worked : List ℕ
+
+-- A row of one figure, and a row of several.
+infix 3 _gives_
+abbrev pub _gives_ : ℕ → ℕ → Row
+given gives worked = record { given = given ∷ []; worked = worked ∷ [] }
+
+infix 3 _all-give_
+abbrev pub _all-give_ : List ℕ → List ℕ → Row
+given all-give worked = record { given = given; worked = worked }
+
+abbrev performance : ℕ → ℕ → Performance
+performance unavailable activation = record { unavailable = unavailable; activation = activation }
+
+-- The shares of the first three places, where only they have weights.
+abbrev pub first-three : (ℕ → List ℕ → List ℕ) → ℕ → List ℕ → List ℕ
+first-three share pot ws = take 3 (share pot (padded ws))
+
+abbrev pub table : List Row
+table =
+    -- performance factors in a month of 720 hours
+    (factor 720 Frequency (performance 72 10_000) gives 9_000)
+    ∷ (factor 720 Voltage (performance 72 10_000) gives 0)
+    ∷ (factor 720 Frequency (performance 36 10_000) gives 10_000)
+    -- the least performance that is paid
+    ∷ (rewarded Frequency 7_499 gives 0)
+    ∷ (rewarded Frequency 7_500 gives 7_500)
+    -- worths of lines
+    ∷ (worth (UpwardActivation 4_500 333) 0 gives 1_498)
+    ∷ (worth (Downward 2_000 50_000 1_800) 10_000 gives 50_000)
+    ∷ (worth (Opportunity 4_500 6_000 40_000 30_000) 10_000 gives 15_000)
+    ∷ (worth (ExtraResource 3_000 400 500 8_000) 0 gives 6_000)
+    -- shares of a pot that leaves an odd cent
+    ∷ (first-three running 45_001 (100 ∷ 200 ∷ 400 ∷ []) all-give 6_428 ∷ 12_858 ∷ 25_715 ∷ [])
+    ∷ (first-three largest 45_001 (100 ∷ 200 ∷ 400 ∷ []) all-give 6_429 ∷ 12_857 ∷ 25_715 ∷ [])
+    ∷ []
+
+abbrev pub same : List ℕ → List ℕ → Bool
+same [] [] = true
+same [] (y ∷ ys) = false
+same (x ∷ xs) [] = false
+same (x ∷ xs) (y ∷ ys) = eqb x y && same xs ys
+
+-- The rows whose figures are not given, so that a wrong one is named.
+abbrev pub wrong : List Row → List Row
+wrong [] = []
+wrong (r ∷ rs) = cond (same (r .given) (r .worked)) (wrong rs) (r ∷ wrong rs)
+
+-- There are none.
+abbrev pub Figures-hold : Type 0
+Figures-hold = wrong table ≡ []

@@ -1,0 +1,2 @@
+-- Lemmas behind the laws of a line's worth.
+pub mod Lawful
