@@ -1,21 +1,20 @@
 -- What follows from the laws of a rule, for every rule.
-use mathlib.Core.Path.{_≡_, refl, sym, ap, subst, _∙_}
-use mathlib.Core.Bool.{true, false}
+use mathlib.Core.Path.{_≡_, sym, ap, subst, _∙_}
 use mathlib.Core.List.{List}
 use mathlib.Core.Logic.{⊎-elim}
-use Prim.Native.Nat.{ℕ, _+_, _*_, _≤_, _<_}
+use Prim.Native.Nat.{ℕ, _+_, _≤_, _<_}
+use native.Mathlib.Nat.{mul-zero}
 use native.Mathlib.Omega.{arith}
-use lib.ListN.{length, getD, replicate}
+use lib.ListN.{getD}
 use Rattle.std.specs.shelf.Lists.{sum}
 use Rattle.std.proofs.shelf.Bits.{mul-le}
-use Rattle.std.proofs.shelf.Lists.{getD-replicate, length-replicate}
+use Rattle.std.proofs.shelf.Lists.{getD-replicate}
 use Rattle.std.proofs.shelf.Sums.{getD-le-sumBy}
 use Rattle.std.proofs.shelf.Tests.{cases-bool, cases-lt, cond-true, cond-false}
 use Rattle.std.proofs.shelf.Ways.{tells}
-use Rattle.prorating.specs.Weights.{limit, Weighed}
-use Rattle.prorating.specs.Laws.{Sharing, Keeps, is-shared, amount-shared, Near, Within}
+use Rattle.prorating.specs.Weights.{Weighed}
+use Rattle.prorating.specs.Laws.{Sharing, Nothing, Nearest, Weightless, Keeps, is-shared, amount-shared, Near, Within}
 use Rattle.prorating.proofs.Counts.{same-places}
-use Rattle.prorating.proofs.SharedBy.{shared-some}
 
 -- a share of a pot that is at most the total is at most the weight
 near-within : (pot total weight share : ℕ) → pot ≤ total → Near pot total weight share → share ≤ weight
@@ -32,6 +31,21 @@ near-back total weight share near =
     (λ (less : share < weight). absurd (omega (arith, near .below, mul-le (share + 1) total weight total (omega arith) (omega arith))))
     (λ more. more)
     (cases-lt share weight)
+
+-- a share of no weight is 0, so `weightless` follows from the laws before it
+near-none : (pot total share : ℕ) → Near pot total 0 share → share ≡ 0
+near-none pot total share near =
+    ⊎-elim
+    (λ (more : 0 < share). absurd (omega (arith, near .above, mul-zero pot, mul-le 1 total share total (omega arith) (omega arith))))
+    (λ none. omega arith)
+    (cases-lt 0 share)
+
+pub weightless-from : (share : Sharing) → Nothing share → Nearest share → Weightless share
+weightless-from share nothing near pot ws k w h none =
+    ⊎-elim
+    (λ shares. near-none pot (sum ws) (getD (share pot ws) k 0) (subst (λ weight. Near pot (sum ws) weight (getD (share pot ws) k 0)) none (near pot ws k w shares h)))
+    (λ unshared. ap (λ xs. getD xs k 0) (nothing pot ws w unshared) ∙ getD-replicate {A = ℕ} 48 k 0 0 h)
+    (cases-bool (is-shared pot ws))
 
 module _ (share : Sharing) (keeps : Keeps share) (pot : ℕ) (ws : List ℕ) (w : Weighed ws) where
   -- the shares come to the pot, or to 0 where nothing is shared

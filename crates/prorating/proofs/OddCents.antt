@@ -1,10 +1,10 @@
 -- Every share rounded down, and the odd cents: what the shares of the largest-remainder rule come to.
 use mathlib.Core.Path.{_≡_, sym, ap, subst, _∙_}
-use mathlib.Core.List.{List, map}
-use mathlib.Core.Bool.{Bool, true}
+use mathlib.Core.List.{List}
+use mathlib.Core.Bool.{true}
 use mathlib.Core.Logic.{_⊎_, ⊎-elim, inl, inr}
 use Prim.Native.Nat.{ℕ, _+_, _-_, _*_, _/_, _%_, _≤_, _<_}
-use native.Mathlib.Nat.{mul-zero, zero-div, zero-mod, le-of-mul-le-mul-left}
+use native.Mathlib.Nat.{le-of-mul-le-mul-left}
 use native.Mathlib.Omega.{arith}
 use lib.ListN.{length, getD}
 use lib.Dec.{ltb}
@@ -14,11 +14,12 @@ use Rattle.std.proofs.shelf.Lists.{length-map, getD-map}
 use Rattle.std.proofs.shelf.Sums.{sum-map}
 use Rattle.std.proofs.shelf.Tests.{cases-lt, lt-ltb, le-ltb}
 use Rattle.prorating.specs.Weights.{Weighed}
-use Rattle.prorating.specs.Laws.{is-shared, Near, Keeps}
+use Rattle.prorating.specs.Laws.{is-shared, Near, Nothing, Nearest, Keeps}
 use Rattle.prorating.specs.Largest.{floors, remainders, cents-left, rank, odd-cent, largest-share, largest, floor-at, remainder-at, Largest-remainders}
 use Rattle.prorating.proofs.Counts.{sum-to, bit, count-to, places-sum, count-small, sum-to-add, sum-to-mul, sum-to-le, sum-to-same}
 use Rattle.prorating.proofs.Ranks.{rank-count, rank-last, rank-means}
-use Rattle.prorating.proofs.SharedBy.{shared-some, shared-none, shared-long, shared-at, shared-zero}
+use Rattle.prorating.proofs.SharedBy.{shared-some, shared-none, shared-long, shared-at}
+use Rattle.prorating.proofs.Conclusions.{weightless-from}
 
 module _ (pot : ℕ) (ws : List ℕ) where
   pub floors-long : length (floors pot ws) ≡ length ws
@@ -145,19 +146,13 @@ module _ (pot : ℕ) (ws : List ℕ) where
           cents-given,
         )
 
-    largest-near : (k : ℕ) → k < length ws → Near pot (sum ws) (getD ws k 0) (largest-share pot ws k)
-    largest-near k h =
+    share-near : (k : ℕ) → k < length ws → Near pot (sum ws) (getD ws k 0) (largest-share pot ws k)
+    share-near k h =
         rw (share-is k h)
         (⊎-elim
         (λ none. rw none (record { above = omega (arith, exact k, remainder-below k); below = omega (arith, exact k, remainder-below k) }))
         (λ one. rw (one .0) (record { above = omega (arith, exact k, remainder-below k, one .1); below = omega (arith, exact k, remainder-below k) }))
         (cent-cases k h))
-
-    largest-weightless : (k : ℕ) → k < length ws → getD ws k 0 ≡ 0 → largest-share pot ws k ≡ 0
-    largest-weightless k h e =
-        let f : floor-at pot ws k ≡ 0 = rw (e, mul-zero, zero-div) in
-        let r : remainder-at pot ws k ≡ 0 = rw (e, mul-zero, zero-mod) in
-        omega (arith, share-is k h, f, no-cent k h r)
 
 module _ (pot : ℕ) (ws : List ℕ) (w : Weighed ws) (shares : is-shared pot ws ≡ true) where
   some : 0 < sum ws
@@ -191,13 +186,20 @@ module _ (pot : ℕ) (ws : List ℕ) (w : Weighed ws) (shares : is-shared pot ws
             (subst (λ r. (getD (remainders pot ws) k 0 < r) ⊎ ((r ≡ getD (remainders pot ws) k 0) × (j < k))) (remainders-at pot ws j in-j) means);
       }
 
+largest-nothing : Nothing largest
+largest-nothing pot ws w none = shared-none (largest-share pot ws) pot ws w none
+
+largest-near : Nearest largest
+largest-near pot ws k w shares h =
+    rw (shared-at (largest-share pot ws) pot ws w shares k h) (share-near pot ws (shared-some pot ws shares) k (omega arith))
+
 -- the largest-remainder rule keeps the laws
 pub largest-keeps : Keeps largest
 largest-keeps =
     record {
       long = λ pot ws w. shared-long (largest-share pot ws) pot ws w;
-      nothing = λ pot ws w none. shared-none (largest-share pot ws) pot ws w none;
+      nothing = largest-nothing;
       whole = largest-whole;
-      near = λ pot ws k w shares h. rw (shared-at (largest-share pot ws) pot ws w shares k h) (largest-near pot ws (shared-some pot ws shares) k (omega arith));
-      weightless = λ pot ws k w h e. shared-zero (largest-share pot ws) pot ws w k h (λ shares. largest-weightless pot ws (shared-some pot ws shares) k (omega arith) e);
+      near = largest-near;
+      weightless = weightless-from largest largest-nothing largest-near;
     }

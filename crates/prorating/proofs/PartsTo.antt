@@ -14,9 +14,10 @@ use Rattle.std.proofs.shelf.Lists.{take-all}
 use Rattle.std.proofs.shelf.Sums.{sumBy-more}
 use Rattle.std.proofs.shelf.Tests.{cases-lt}
 use Rattle.prorating.specs.Weights.{Weighed}
-use Rattle.prorating.specs.Laws.{is-shared, Near, Keeps}
+use Rattle.prorating.specs.Laws.{is-shared, Near, Nothing, Nearest, Keeps}
 use Rattle.prorating.specs.Running.{part-to, running-share, running, Running-sums}
-use Rattle.prorating.proofs.SharedBy.{shared-some, shared-none, shared-long, shared-at, shared-zero}
+use Rattle.prorating.proofs.SharedBy.{shared-some, shared-none, shared-long, shared-at}
+use Rattle.prorating.proofs.Conclusions.{weightless-from}
 
 -- a quotient rounded down does not fall where the dividend grows
 floor-grows : (a b t : ℕ) → 0 < t → a / t ≤ (a + b) / t
@@ -60,12 +61,6 @@ module _ (pot : ℕ) (ws : List ℕ) where
       let n = floor-near (pot * sum (take k ws)) (pot * getD ws k 0) (sum ws) (part-to pot ws k) (running-share pot ws k) pos refl (sym (part-more k h) ∙ share-after pos k h) in
       record { above = n .0; below = n .1 }
 
-  share-weightless : (k : ℕ) → k < length ws → getD ws k 0 ≡ 0 → running-share pot ws k ≡ 0
-  unfolding running-share part-to
-  share-weightless k h e =
-      let same : sum (take (k + 1) ws) ≡ sum (take k ws) = omega (arith, sum-more ws k h) in
-      rw same (omega arith)
-
 -- the first k shares come to the pot's part for the first k places
 module _ (pot : ℕ) (ws : List ℕ) (w : Weighed ws) (shares : is-shared pot ws ≡ true) where
   prefix : (k : ℕ) → sum (take k (running pot ws)) ≡ part-to pot ws k
@@ -97,13 +92,20 @@ module _ (pot : ℕ) (ws : List ℕ) (w : Weighed ws) (shares : is-shared pot ws
       let all = ap sum (take-all 48 (running pot ws) (omega (arith, shared-long (running-share pot ws) pot ws w))) in
       omega (arith, prefix 48, part-all pot ws (shared-some pot ws shares) 48 (omega arith))
 
+running-nothing : Nothing running
+running-nothing pot ws w none = shared-none (running-share pot ws) pot ws w none
+
+running-near : Nearest running
+running-near pot ws k w shares h =
+    rw (shared-at (running-share pot ws) pot ws w shares k h) (share-near pot ws (shared-some pot ws shares) k (omega arith))
+
 -- the running rule keeps the laws
 pub running-keeps : Keeps running
 running-keeps =
     record {
       long = λ pot ws w. shared-long (running-share pot ws) pot ws w;
-      nothing = λ pot ws w none. shared-none (running-share pot ws) pot ws w none;
+      nothing = running-nothing;
       whole = running-whole;
-      near = λ pot ws k w shares h. rw (shared-at (running-share pot ws) pot ws w shares k h) (share-near pot ws (shared-some pot ws shares) k (omega arith));
-      weightless = λ pot ws k w h e. shared-zero (running-share pot ws) pot ws w k h (λ _. share-weightless pot ws k (omega arith) e);
+      near = running-near;
+      weightless = weightless-from running running-nothing running-near;
     }

@@ -1,15 +1,12 @@
 -- Ranks by remainder: they are all different, so as many places come first as there are cents.
-use mathlib.Core.Path.{_≡_, ap, _∙_}
-use mathlib.Core.List.{List, map}
-use mathlib.Core.Bool.{Bool, true, false, _&&_}
+use mathlib.Core.Path.{_≡_, ap}
+use mathlib.Core.List.{List}
+use mathlib.Core.Bool.{true, false, _&&_}
 use mathlib.Core.Logic.{_⊎_, ⊎-elim, inl, inr}
-use Prim.Native.Nat.{ℕ, _+_, _≤_, _<_}
-use native.Mathlib.Numerals.{add-one}
+use Prim.Native.Nat.{ℕ, _≤_, _<_}
 use native.Mathlib.Omega.{arith}
 use lib.ListN.{length, getD}
 use lib.Dec.{ltb, eqb}
-use Rattle.std.specs.Iters.{counting}
-use Rattle.std.specs.shelf.Lists.{countBy}
 use Rattle.std.proofs.shelf.Tests.{cases-eq, cases-bool, ltb-true, eqb-true, and-parts, or-cases}
 use Rattle.std.proofs.shelf.Ways.{tells}
 use Rattle.prorating.specs.Largest.{comes-first, rank}

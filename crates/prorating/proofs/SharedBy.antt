@@ -2,15 +2,14 @@
 use mathlib.Core.Path.{_≡_, sym, ap, _∙_}
 use mathlib.Core.Bool.{true, false}
 use mathlib.Core.List.{List, map}
-use mathlib.Core.Logic.{⊎-elim}
 use Prim.Native.Nat.{ℕ, _≤_, _<_}
 use native.Mathlib.Omega.{arith}
 use lib.ListN.{length, getD, replicate}
 use Rattle.std.specs.Iters.{counting}
 use Rattle.std.specs.shelf.Lists.{sum}
 use Rattle.std.proofs.shelf.Counted.{length-map-counting, getD-map-counting, fill-by-all}
-use Rattle.std.proofs.shelf.Lists.{getD-replicate, length-replicate}
-use Rattle.std.proofs.shelf.Tests.{cond-true, cond-false, cond-both, cases-bool}
+use Rattle.std.proofs.shelf.Lists.{length-replicate}
+use Rattle.std.proofs.shelf.Tests.{cond-true, cond-false, cond-both}
 use Rattle.std.proofs.shelf.Ways.{tells}
 use Rattle.prorating.specs.Weights.{limit, Weighed}
 use Rattle.prorating.specs.Laws.{is-shared}
@@ -46,14 +45,6 @@ module _ (f : ℕ → ℕ) (pot : ℕ) (ws : List ℕ) where
   pub shared-at : Weighed ws → is-shared pot ws ≡ true → (k : ℕ) → k < 48 → getD (shared-by f pot ws) k 0 ≡ f k
   shared-at w shares k h =
       ap (λ xs. getD xs k 0) (shared-map shares) ∙ getD-map-counting f 0 (length ws) k k 0 (omega arith) (omega arith)
-
-  -- a place whose share is 0 where the pot is shared has the share 0
-  pub shared-zero : Weighed ws → (k : ℕ) → k < 48 → (is-shared pot ws ≡ true → f k ≡ 0) → getD (shared-by f pot ws) k 0 ≡ 0
-  shared-zero w k h zeroed =
-      ⊎-elim
-      (λ shares. shared-at w shares k h ∙ zeroed shares)
-      (λ none. ap (λ xs. getD xs k 0) (shared-none w none) ∙ getD-replicate 48 k 0 0 h)
-      (cases-bool (is-shared pot ws))
 
   -- a list that was filled place by place
   pub shared-fill : Weighed ws → is-shared pot ws ≡ true → (out : List ℕ) → length out ≡ 48 → ((k : ℕ) → k < 48 → getD out k 0 ≡ f k) → out ≡ shared-by f pot ws

@@ -1,7 +1,7 @@
 use mathlib.Core.Path.{_≡_, sym, ap, _∙_}
 use native.Mathlib.Omega.{arith}
 use lib.ListN.{length}
-use Rattle.prorating.specs.Largest.{comes-first, rank}
+use Rattle.prorating.specs.Largest.{comes-first}
 use Rattle.prorating.proofs.Counts.{bit, count-to, sum-to-more}
 use Rattle.prorating.proofs.Ranks.{rank-counts}
 use Rattle.prorating.proofs.largest.rank.Needs as need

@@ -1,8 +1,8 @@
-use mathlib.Core.Path.{_≡_, _∙_, ap}
+use mathlib.Core.Path.{_∙_, ap}
 use native.Mathlib.Omega.{arith}
 use Rattle.std.specs.shelf.Lists.{sum}
 use Rattle.prorating.specs.Weights.{Weighed}
-use Rattle.prorating.specs.Laws.{Sharing, Keeps, Within}
+use Rattle.prorating.specs.Laws.{Sharing, Keeps}
 use Rattle.prorating.proofs.Conclusions.{shares-amount, shares-within, shares-back}
 use Rattle.prorating.proofs.prorated.prorated.Needs as need
 

@@ -1,4 +1,4 @@
-use mathlib.Core.Path.{_≡_, refl, sym, ap, subst, _∙_}
+use mathlib.Core.Path.{_≡_, sym, subst, _∙_}
 use Prim.Native.Nat.{ℕ, _+_, _≤_, _<_}
 use native.Mathlib.Omega.{arith}
 use lib.Dec.{ltb}
@@ -8,7 +8,6 @@ use Rattle.std.proofs.shelf.Edits.{fill-by-more}
 use Rattle.std.proofs.shelf.Lists.{getD-set-other}
 use Rattle.std.proofs.shelf.Sums.{getD-le-sumBy}
 use Rattle.prorating.specs.Weights.{Weighed}
-use Rattle.prorating.specs.Laws.{is-shared}
 use Rattle.prorating.specs.Largest.{floors, odd-cent, largest-share}
 use Rattle.prorating.proofs.Counts.{bit-small}
 use Rattle.prorating.proofs.SharedBy.{shared-small, shared-some, shared-or-not, shared-none, shared-fill}

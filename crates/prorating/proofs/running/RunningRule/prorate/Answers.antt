@@ -1,13 +1,11 @@
 use mathlib.Core.Path.{_≡_, refl, sym, subst}
-use mathlib.Core.Bool.{true}
 use Prim.Native.Nat.{ℕ, _+_, _-_, _<_, _≤_}
 use native.Mathlib.Omega.{arith}
 use lib.ListN.{length, getD, take, set, length-set}
 use Rattle.std.specs.shelf.Lists.{sum}
 use Rattle.std.proofs.shelf.Edits.{fill-by-more}
 use Rattle.std.proofs.shelf.Sums.{sumBy-take-le}
-use Rattle.prorating.specs.Weights.{limit, Weighed}
-use Rattle.prorating.specs.Laws.{is-shared}
+use Rattle.prorating.specs.Weights.{Weighed}
 use Rattle.prorating.specs.Running.{part-to, running-share}
 use Rattle.prorating.proofs.SharedBy.{shared-small, shared-some, shared-or-not, shared-none, shared-fill}
 use Rattle.prorating.proofs.PartsTo.{sum-more, part-none, part-grows, running-sums}

@@ -1,9 +1,6 @@
-use mathlib.Core.Path.{_≡_, sym}
-use mathlib.Core.Bool.{true}
-use Prim.Native.Nat.{_+_, _-_, _<_}
+use Prim.Native.Nat.{_-_, _<_}
 use native.Mathlib.Omega.{arith}
 use lib.ListN.{length, length-set}
-use Rattle.std.specs.shelf.Lists.{sum}
 use Rattle.std.proofs.shelf.Ways.{tells}
 use Rattle.prorating.proofs.Puts.{placed, weight-within, put-total}
 use Rattle.prorating.proofs.weights.Weights.put.Needs as need
