@@ -1,4 +1,4 @@
--- The worked figures: what the definitions of factors, worths and shares have to give, in one table.
+-- The worked figures of docs/RULES.md and docs/WORTH.md: what the definitions of shares, factors and worths have to give, in one table.
 use mathlib.Core.Path.{_≡_}
 use mathlib.Core.Bool.{Bool, true, false, cond, _&&_}
 use mathlib.Core.List.{List, [], _∷_}
@@ -9,10 +9,12 @@ use Rattle.prorating.specs.Weights.{padded}
 use Rattle.prorating.specs.Running.{running}
 use Rattle.prorating.specs.Largest.{largest}
 use Rattle.worth.specs.declared.family.Family.the-variants.{Frequency, Voltage}
-use Rattle.worth.specs.declared.line.Line.the-variants.{UpwardActivation, Downward, Opportunity, ExtraResource}
+use Rattle.worth.specs.declared.line.Line.the-variants.{UpwardAvailability, UpwardActivation, Downward, OverCost, Opportunity, ExtraFuel, ExtraResource, ExtraWithdrawal}
 use Rattle.worth.specs.declared.performance.Performance.{Performance}
 use Rattle.worth.specs.Performances.{factor, rewarded}
 use Rattle.worth.specs.Lines.{worth}
+use Rattle.worth.specs.Installations.{worth as installation-worth}
+use Rattle.worth.specs.Sheddings.{worth as shedding-worth}
 
 -- What a definition gives, and the worked figures that it has to give.
 pub record Row : Type 0 where
@@ -44,11 +46,18 @@ table =
     -- the least performance that is paid
     ∷ (rewarded Frequency 7_499 gives 0)
     ∷ (rewarded Frequency 7_500 gives 7_500)
-    -- worths of lines
+    -- worths of lines, one of each kind
+    ∷ (worth (UpwardAvailability 2_000 50_000) 9_000 gives 90_000)
     ∷ (worth (UpwardActivation 4_500 333) 0 gives 1_498)
     ∷ (worth (Downward 2_000 50_000 1_800) 10_000 gives 50_000)
+    ∷ (worth (OverCost 6_000 4_500 30_001) 0 gives 45_001)
     ∷ (worth (Opportunity 4_500 6_000 40_000 30_000) 10_000 gives 15_000)
+    ∷ (worth (ExtraFuel 1_200 260 240 30_001) 0 gives 720)
     ∷ (worth (ExtraResource 3_000 400 500 8_000) 0 gives 6_000)
+    ∷ (worth (ExtraWithdrawal 4_500 12_345 2_000) 0 gives 46_552)
+    -- an installation and a shedding
+    ∷ (installation-worth 1_200_000 60_007 gives 105_000)
+    ∷ (shedding-worth 1_500 2_000 1_801 gives 1_500_833)
     -- shares of a pot that leaves an odd cent
     ∷ (first-three running 45_001 (100 ∷ 200 ∷ 400 ∷ []) all-give 6_428 ∷ 12_858 ∷ 25_715 ∷ [])
     ∷ (first-three largest 45_001 (100 ∷ 200 ∷ 400 ∷ []) all-give 6_429 ∷ 12_857 ∷ 25_715 ∷ [])

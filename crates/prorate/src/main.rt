@@ -8,6 +8,8 @@ use prorate_input::Input;
 use prorate_input::faults::FaultDisplay;
 use prorate_input::read;
 use prorating::refusal::Refusal;
+use prorating::weights::LIMIT;
+use prorating::weights::PLACES;
 use prorating::weights::Weights;
 use std::fmt;
 use std::io;
@@ -24,7 +26,7 @@ enum Failure {
     Io(io::Error),
     TooLong,
     Input(Fault),
-    TooHeavy(Refusal),
+    Weights(Refusal),
     Unshared(Unshared),
 }
 
@@ -42,7 +44,7 @@ impl From<Fault> for Failure as FailureFromFault {
 
 impl From<Refusal> for Failure as FailureFromRefusal {
     fn from(e: Refusal) -> Failure {
-        Failure::TooHeavy(e)
+        Failure::Weights(e)
     }
 }
 
@@ -61,8 +63,12 @@ impl fmt::Display for Failure as FailureDisplay {
             ),
             Failure::TooLong => write!(f, "the input is longer than {LONGEST} bytes"),
             Failure::Input(fault) => write!(f, "{fault}"),
-            Failure::TooHeavy(_) => write!(f, "the weights add up to more than 3000000000"),
-            Failure::Unshared(Unshared::PotTooLarge) => write!(f, "the pot is above 3000000000"),
+            Failure::Weights(Refusal::Place) => write!(f, "there are more than {PLACES} weights"),
+            Failure::Weights(Refusal::Total) => write!(
+                f,
+                "the weights add up to more than {LIMIT}"
+            ),
+            Failure::Unshared(Unshared::PotTooLarge) => write!(f, "the pot is above {LIMIT}"),
             Failure::Unshared(Unshared::NoWeight) => write!(
                 f,
                 "all weights are 0, so nobody can be charged the pot"

@@ -1,8 +1,9 @@
 // The shares of a pot by both rules, side by side.
 ghost use mathlib.Core.Path.{_≡_};
+ghost use Rattle.std.specs.Vec.{made};
 ghost use Rattle.std.specs.shelf.Lists.{sum};
 ghost use Rattle.prorating.specs.Laws.{amount-shared};
-ghost use Rattle.prorate.specs.Tables.{table-of};
+ghost use Rattle.prorate.specs.Tables.{table-of, Whole};
 use prorating::largest::Largest;
 use prorating::largest::LargestRule;
 use prorating::prorated::prorated;
@@ -52,7 +53,8 @@ pub struct Table {
 impl Table {
     // The shares of a pot by both rules, which add up to the pot.
     pub fn of(pot: u64, weights: &Weights) -> Result<Table, Unshared>
-        ensures { λ r. ⌜ r ≡ table-of pot (now (weights .entry) .at) ⌝ }
+        ensures value { λ r. ⌜ r ≡ table-of pot (now (weights .entry) .at) ⌝ }
+        ensures whole { λ r. ⌜ made r (Whole pot) ⌝ }
     {
         if pot > LIMIT {
             return Err(Unshared::PotTooLarge);

@@ -13,7 +13,7 @@ use Rattle.std.proofs.shelf.Sums.{getD-le-sumBy}
 use Rattle.std.proofs.shelf.Tests.{cases-bool, cases-lt, cond-true, cond-false}
 use Rattle.std.proofs.shelf.Ways.{tells}
 use Rattle.prorating.specs.Weights.{Weighed}
-use Rattle.prorating.specs.Laws.{Sharing, Nothing, Nearest, Weightless, Keeps, is-shared, amount-shared, Near, Within}
+use Rattle.prorating.specs.Laws.{Sharing, Nothing, Each-near, Weightless, Keeps, is-shared, amount-shared, Near, Within}
 use Rattle.prorating.proofs.Counts.{same-places}
 
 -- a share of a pot that is at most the total is at most the weight
@@ -40,7 +40,7 @@ near-none pot total share near =
     (λ none. omega arith)
     (cases-lt 0 share)
 
-pub weightless-from : (share : Sharing) → Nothing share → Nearest share → Weightless share
+pub weightless-from : (share : Sharing) → Nothing share → Each-near share → Weightless share
 weightless-from share nothing near pot ws k w h none =
     ⊎-elim
     (λ shares. near-none pot (sum ws) (getD (share pot ws) k 0) (subst (λ weight. Near pot (sum ws) weight (getD (share pot ws) k 0)) none (near pot ws k w shares h)))

@@ -5,3 +5,4 @@ pub mod Conclusions
 pub mod PartsTo
 pub mod Ranks
 pub mod OddCents
+pub mod RuledOut

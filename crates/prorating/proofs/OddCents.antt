@@ -14,7 +14,7 @@ use Rattle.std.proofs.shelf.Lists.{length-map, getD-map}
 use Rattle.std.proofs.shelf.Sums.{sum-map}
 use Rattle.std.proofs.shelf.Tests.{cases-lt, lt-ltb, le-ltb}
 use Rattle.prorating.specs.Weights.{Weighed}
-use Rattle.prorating.specs.Laws.{is-shared, Near, Nothing, Nearest, Keeps}
+use Rattle.prorating.specs.Laws.{is-shared, Near, Nothing, Each-near, Keeps}
 use Rattle.prorating.specs.Largest.{floors, remainders, cents-left, rank, odd-cent, largest-share, largest, floor-at, remainder-at, Largest-remainders}
 use Rattle.prorating.proofs.Counts.{sum-to, bit, count-to, places-sum, count-small, sum-to-add, sum-to-mul, sum-to-le, sum-to-same}
 use Rattle.prorating.proofs.Ranks.{rank-count, rank-last, rank-means}
@@ -189,7 +189,7 @@ module _ (pot : ℕ) (ws : List ℕ) (w : Weighed ws) (shares : is-shared pot ws
 largest-nothing : Nothing largest
 largest-nothing pot ws w none = shared-none (largest-share pot ws) pot ws w none
 
-largest-near : Nearest largest
+largest-near : Each-near largest
 largest-near pot ws k w shares h =
     rw (shared-at (largest-share pot ws) pot ws w shares k h) (share-near pot ws (shared-some pot ws shares) k (omega arith))
 

@@ -14,7 +14,7 @@ use Rattle.std.proofs.shelf.Lists.{take-all}
 use Rattle.std.proofs.shelf.Sums.{sumBy-more}
 use Rattle.std.proofs.shelf.Tests.{cases-lt}
 use Rattle.prorating.specs.Weights.{Weighed}
-use Rattle.prorating.specs.Laws.{is-shared, Near, Nothing, Nearest, Keeps}
+use Rattle.prorating.specs.Laws.{is-shared, Near, Nothing, Each-near, Keeps}
 use Rattle.prorating.specs.Running.{part-to, running-share, running, Running-sums}
 use Rattle.prorating.proofs.SharedBy.{shared-some, shared-none, shared-long, shared-at}
 use Rattle.prorating.proofs.Conclusions.{weightless-from}
@@ -95,7 +95,7 @@ module _ (pot : ℕ) (ws : List ℕ) (w : Weighed ws) (shares : is-shared pot ws
 running-nothing : Nothing running
 running-nothing pot ws w none = shared-none (running-share pot ws) pot ws w none
 
-running-near : Nearest running
+running-near : Each-near running
 running-near pot ws k w shares h =
     rw (shared-at (running-share pot ws) pot ws w shares k h) (share-near pot ws (shared-some pot ws shares) k (omega arith))
 

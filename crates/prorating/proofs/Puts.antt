@@ -17,7 +17,7 @@ use Rattle.std.proofs.shelf.Ways.{tells}
 use Rattle.std.proofs.shelf.Lists.{length-take, take-all, length-replicate, getD-replicate, getD-past, getD-take, getD-append-left, getD-append-right, getD-set-same, getD-set-other}
 use Rattle.prorating.specs.declared.refusal.Refusal.{Refusal}
 use Rattle.prorating.specs.declared.refusal.Refusal.the-variants.{Total}
-use Rattle.prorating.specs.Weights.{limit, is-place, with-weight, put-answer, put-after, padded, of-refusal}
+use Rattle.prorating.specs.Weights.{limit, is-place, weight-at, with-weight, put-answer, put-after, padded, of-refusal}
 use Rattle.prorating.proofs.Counts.{same-places}
 
 -- an index that was found is that of a place
@@ -111,3 +111,10 @@ made-whole ws at k few all is light =
     let whole : at ≡ padded ws = is ∙ ap padded (take-all k ws all) in
     let total : sum at ≡ sum ws = ap sum whole ∙ padded-sum ws in
     (grind (arith, tells), whole)
+
+-- the weight at a place is that at its index
+pub weight-at-index : (ws : List ℕ) (k : ℕ) → k < 48 → weight-at ws (k + 1) ≡ getD ws k 0
+weight-at-index ws k h =
+    let place : is-place (k + 1) ≡ true = grind (arith, tells) in
+    let index : k + 1 - 1 ≡ k = omega arith in
+    cond-true (is-place (k + 1)) _ _ place ∙ ap (λ i. getD ws i 0) index

@@ -9,24 +9,24 @@ use lib.ListN.{length, getD}
 use lib.Dec.{ltb, eqb}
 use Rattle.std.proofs.shelf.Tests.{cases-eq, cases-bool, ltb-true, eqb-true, and-parts, or-cases}
 use Rattle.std.proofs.shelf.Ways.{tells}
-use Rattle.prorating.specs.Largest.{comes-first, rank}
+use Rattle.prorating.specs.Largest.{comes-before, rank}
 use Rattle.prorating.proofs.Counts.{bit, count-to, counting-count, sum-to-le, sum-to-less, sum-to-ones, bit-small, below-count}
 
 module _ (rs : List ℕ) where
-  pub rank-counts : (k : ℕ) → rank rs k ≡ count-to (λ j. comes-first rs j k) (length rs)
+  pub rank-counts : (k : ℕ) → rank rs k ≡ count-to (λ j. comes-before rs j k) (length rs)
   unfolding rank
-  rank-counts k = counting-count (λ j. comes-first rs j k) (length rs)
+  rank-counts k = counting-count (λ j. comes-before rs j k) (length rs)
 
-  first-self : (k : ℕ) → comes-first rs k k ≡ false
+  first-self : (k : ℕ) → comes-before rs k k ≡ false
   first-self k = grind (arith, tells)
 
-  first-trans : (i j k : ℕ) → comes-first rs i j ≡ true → comes-first rs j k ≡ true → comes-first rs i k ≡ true
+  first-trans : (i j k : ℕ) → comes-before rs i j ≡ true → comes-before rs j k ≡ true → comes-before rs i k ≡ true
   first-trans i j k p q = grind (arith, tells)
 
-  first-total : (j k : ℕ) → (j ≡ k → ⊥) → comes-first rs j k ≡ false → comes-first rs k j ≡ true
+  first-total : (j k : ℕ) → (j ≡ k → ⊥) → comes-before rs j k ≡ false → comes-before rs k j ≡ true
   first-total j k apart p = grind (arith, tells)
 
-  first-means : (j k : ℕ) → comes-first rs j k ≡ true → (getD rs k 0 < getD rs j 0) ⊎ ((getD rs j 0 ≡ getD rs k 0) × (j < k))
+  first-means : (j k : ℕ) → comes-before rs j k ≡ true → (getD rs k 0 < getD rs j 0) ⊎ ((getD rs j 0 ≡ getD rs k 0) × (j < k))
   first-means j k first =
       ⊎-elim
       (λ larger. inl (ltb-true (getD rs k 0) (getD rs j 0) larger))
@@ -34,17 +34,17 @@ module _ (rs : List ℕ) where
       (or-cases (ltb (getD rs k 0) (getD rs j 0)) (eqb (getD rs j 0) (getD rs k 0) && ltb j k) first)
 
   -- what comes first has the lower rank
-  rank-less : (j k : ℕ) → j < length rs → comes-first rs j k ≡ true → rank rs j < rank rs k
+  rank-less : (j k : ℕ) → j < length rs → comes-before rs j k ≡ true → rank rs j < rank rs k
   rank-less j k h first =
       omega (
         arith,
         rank-counts j,
         rank-counts k,
-        sum-to-less (λ i. bit (comes-first rs i j)) (λ i. bit (comes-first rs i k)) (length rs) j h
+        sum-to-less (λ i. bit (comes-before rs i j)) (λ i. bit (comes-before rs i k)) (length rs) j h
             (λ i l. ⊎-elim
             (λ t. omega (arith, ap bit t, ap bit (first-trans i j k t first)))
             (λ f. omega (arith, ap bit f))
-            (cases-bool (comes-first rs i j)))
+            (cases-bool (comes-before rs i j)))
             (omega (arith, ap bit (first-self j), ap bit first)),
       )
 
@@ -54,7 +54,7 @@ module _ (rs : List ℕ) where
         arith,
         rank-counts k,
         sum-to-ones (length rs),
-        sum-to-less (λ i. bit (comes-first rs i k)) (λ _. 1) (length rs) k h (λ i l. bit-small (comes-first rs i k)) (omega (arith, ap bit (first-self k))),
+        sum-to-less (λ i. bit (comes-before rs i k)) (λ _. 1) (length rs) k h (λ i l. bit-small (comes-before rs i k)) (omega (arith, ap bit (first-self k))),
       )
 
   rank-apart : (j k : ℕ) → j < length rs → k < length rs → rank rs j ≡ rank rs k → j ≡ k
@@ -64,7 +64,7 @@ module _ (rs : List ℕ) where
       (λ apart. ⊎-elim
       (λ t. omega (arith, rank-less j k hj t))
       (λ f. omega (arith, rank-less k j hk (first-total j k apart f)))
-      (cases-bool (comes-first rs j k)))
+      (cases-bool (comes-before rs j k)))
       (cases-eq j k)
 
   -- m places have a rank below m
@@ -77,7 +77,7 @@ module _ (rs : List ℕ) where
       omega (
         arith,
         rank-counts k,
-        sum-to-le (λ j. bit (ltb 0 (getD rs j 0))) (λ j. bit (comes-first rs j k)) (length rs) (λ j l. grind (arith, tells)),
+        sum-to-le (λ j. bit (ltb 0 (getD rs j 0))) (λ j. bit (comes-before rs j k)) (length rs) (λ j l. grind (arith, tells)),
       )
 
   -- the lower rank has the larger remainder, or an equal one and the lower number
@@ -90,4 +90,4 @@ module _ (rs : List ℕ) where
       (λ same. let e : rank rs j ≡ rank rs k = ap (rank rs) same in absurd (omega arith))
       (λ apart. absurd (omega (arith, rank-less k j hk (first-total j k apart f))))
       (cases-eq j k))
-      (cases-bool (comes-first rs j k)))
+      (cases-bool (comes-before rs j k)))

@@ -24,14 +24,14 @@ unfoldable pub cents-left : ℕ → List ℕ → ℕ
 cents-left pot ws = pot - sum (floors pot ws)
 
 -- Whether the remainder at j comes before that at k: it is larger, or equal and of the lower number.
-abbrev pub comes-first : List ℕ → ℕ → ℕ → Bool
-comes-first rs j k = ltb (getD rs k 0) (getD rs j 0) || (eqb (getD rs j 0) (getD rs k 0) && ltb j k)
+abbrev pub comes-before : List ℕ → ℕ → ℕ → Bool
+comes-before rs j k = ltb (getD rs k 0) (getD rs j 0) || (eqb (getD rs j 0) (getD rs k 0) && ltb j k)
 
 -- How many come before the one at k.
 unfoldable pub rank : List ℕ → ℕ → ℕ
-rank rs k = countBy (λ j. comes-first rs j k) (counting 0 (length rs))
+rank rs k = countBy (λ j. comes-before rs j k) (counting 0 (length rs))
 
--- The odd cent of the place k + 1, or none: there is one for each of the first, as long as cents are left.
+-- The odd cent of the place k + 1, or none: the lowest ranks get one each, as many as cents are left.
 unfoldable pub odd-cent : ℕ → List ℕ → ℕ → ℕ
 odd-cent pot ws k = cond (ltb (rank (remainders pot ws) k) (cents-left pot ws)) 1 0
 

@@ -4,7 +4,7 @@ use mathlib.Core.Bool.{Bool, true, false, cond, _&&_}
 use mathlib.Core.List.{List}
 use Prim.Native.Nat.{ℕ, _+_, _*_, _<_, _≤_}
 use lib.Dec.{leb, ltb}
-use lib.ListN.{length, getD, replicate}
+use lib.ListN.{length, getD, set, replicate}
 use Rattle.std.specs.shelf.Lists.{sum}
 use Rattle.prorating.specs.Weights.{limit, Weighed}
 
@@ -34,8 +34,8 @@ abbrev pub Whole : Sharing → Type 0
 Whole share = (pot : ℕ) (ws : List ℕ) → Weighed ws → is-shared pot ws ≡ true → sum (share pot ws) ≡ pot
 
 -- And each is less than one cent away from pot × weight ÷ total.
-abbrev pub Nearest : Sharing → Type 0
-Nearest share = (pot : ℕ) (ws : List ℕ) (k : ℕ) → Weighed ws → is-shared pot ws ≡ true → k < 48 →
+abbrev pub Each-near : Sharing → Type 0
+Each-near share = (pot : ℕ) (ws : List ℕ) (k : ℕ) → Weighed ws → is-shared pot ws ≡ true → k < 48 →
     Near pot (sum ws) (getD ws k 0) (getD (share pot ws) k 0)
 
 -- A place without weight has no share.
@@ -47,8 +47,15 @@ pub record Keeps (share : Sharing) : Type 0 where
   pub long : Long share
   pub nothing : Nothing share
   pub whole : Whole share
-  pub near : Nearest share
+  pub near : Each-near share
   pub weightless : Weightless share
+
+-- What the laws rule out: shares that are all 0, and the whole pot for one place, whichever it is.
+abbrev pub No-rule-of-zeros : Type 0
+No-rule-of-zeros = Whole (λ pot ws. replicate 48 0) → ⊥
+
+abbrev pub No-rule-for-one : Type 0
+No-rule-for-one = (place : ℕ) → Each-near (λ pot ws. set (replicate 48 0) place pot) → ⊥
 
 -- What the shares of every rule add up to.
 abbrev pub amount-shared : ℕ → List ℕ → ℕ

@@ -10,7 +10,7 @@ use Rattle.prorating.specs.Shares.{shared-by}
 unfoldable pub part-to : ℕ → List ℕ → ℕ → ℕ
 part-to pot ws k = pot * sum (take k ws) / sum ws
 
--- The share of the place k + 1: what the pot's part for the first k + 1 places has more than the part for the first k.
+-- The share of the place k + 1: the pot's part for the first k + 1 places less that for the first k.
 unfoldable pub running-share : ℕ → List ℕ → ℕ → ℕ
 running-share pot ws k = part-to pot ws (k + 1) - part-to pot ws k
 

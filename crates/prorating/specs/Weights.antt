@@ -54,7 +54,7 @@ padded ws = ws ++ replicate (48 - length ws) 0
 abbrev pub of-refusal : List ℕ → Option Refusal
 of-refusal ws = cond (ltb 48 (length ws)) (Some Place) (cond (ltb limit (sum ws)) (Some Total) None)
 
--- The number of each refusal in the table of refusals: 2, a figure is outside its limits.
+-- The number of each refusal: 2, a figure is outside its limits.
 abbrev pub number : Refusal → ℕ
 number Place = 2
 number Total = 2

@@ -4,7 +4,7 @@ ghost use mathlib.Core.Bool.{true, cond};
 ghost use Prim.Native.Nat.{_<_};
 ghost use lib.Dec.{ltb};
 ghost use Rattle.prorating.specs.Laws.{is-shared as is-shared-of};
-ghost use Rattle.prorating.specs.Largest.{floors as floors-of, remainders as remainders-of, cents-left, comes-first, rank as rank-of, largest as largest-of, Largest-remainders};
+ghost use Rattle.prorating.specs.Largest.{floors as floors-of, remainders as remainders-of, cents-left, comes-before, rank as rank-of, largest as largest-of, Largest-remainders};
 use crate::parts::floor;
 use crate::parts::remainder;
 use crate::rule::Rule;
@@ -45,9 +45,9 @@ fn round_down(pot: u64, weights: &Weights) -> Rounded
 }
 
 // Whether the remainder at j comes before that at k: it is larger, or equal and of the lower number.
-fn precedes(remainders: &[u64; PLACES], j: usize, k: usize) -> bool
+fn comes_before(remainders: &[u64; PLACES], j: usize, k: usize) -> bool
     requires { ⌜ j < 48 ⌝ ∗ ⌜ k < 48 ⌝ }
-    ensures { λ r. ⌜ r ≡ comes-first (now (remainders .entry)) j k ⌝ }
+    ensures { λ r. ⌜ r ≡ comes-before (now (remainders .entry)) j k ⌝ }
 {
     remainders[k] < remainders[j] || (remainders[j] == remainders[k] && j < k)
 }
@@ -59,14 +59,14 @@ fn rank(remainders: &[u64; PLACES], k: usize) -> u64
 {
     let mut before = 0;
     for j in 0..PLACES {
-        if precedes(remainders, j, k) {
+        if comes_before(remainders, j, k) {
             before += 1;
         }
     }
     before
 }
 
-// The odd cent of a rank: there is one for each of the first, as long as cents are left.
+// The odd cent of a rank: the lowest ranks get one each, as many as cents are left.
 fn odd_cent(rank: u64, left: u64) -> u64
     ensures { λ r. ⌜ r ≡ cond (ltb rank left) 1 0 ⌝ }
 {

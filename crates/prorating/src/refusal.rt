@@ -4,14 +4,14 @@ ghost use Rattle.prorating.specs.Weights.{number as number-of};
 
 #[derive(Clone, Copy, Debug, PartialEq)]
 pub enum Refusal {
-    // The place is none of 1 to 48.
+    // A place is none of 1 to 48.
     Place,
     // The total would pass the limit.
     Total,
 }
 
 impl Refusal {
-    // The number in the table of refusals.
+    // The refusal's number, as in docs/REFUSALS.md.
     pub fn number(&self) -> u8
         ensures { λ r. ⌜ r ≡ number-of (now (self .entry)) ⌝ }
     {

@@ -2,7 +2,7 @@
 ghost use mathlib.Core.Path.{_≡_};
 ghost use mathlib.Core.List.{List};
 ghost use Prim.Native.Nat.{ℕ};
-ghost use Rattle.prorating.specs.Laws.{Long, Nothing, Whole, Nearest, Weightless, is-shared as is-shared-of};
+ghost use Rattle.prorating.specs.Laws.{Long, Nothing, Whole, Each-near, Weightless, No-rule-of-zeros, No-rule-for-one, is-shared as is-shared-of};
 use crate::weights::LIMIT;
 use crate::weights::PLACES;
 use crate::weights::Weights;
@@ -22,7 +22,7 @@ pub trait Rule {
     law whole: { (s : Self) → Whole (shares s) };
 
     // And each is less than one cent away from pot × weight ÷ total.
-    law near: { (s : Self) → Nearest (shares s) };
+    law near: { (s : Self) → Each-near (shares s) };
 
     // A place without weight has no share.
     law weightless: { (s : Self) → Weightless (shares s) };
@@ -37,4 +37,12 @@ pub fn is_shared(pot: u64, weights: &Weights) -> bool
     ensures { λ r. ⌜ r ≡ is-shared-of pot (now (weights .entry) .at) ⌝ }
 {
     pot <= LIMIT && weights.total() > 0
+}
+
+// The laws rule out shares that are all 0, and the whole pot for one place. The function does nothing: its contract is the statement.
+pub fn laws_rule_out() -> u8
+    ensures zeros { λ _. ⌜ No-rule-of-zeros ⌝ }
+    ensures one { λ _. ⌜ No-rule-for-one ⌝ }
+{
+    0
 }

@@ -9,7 +9,7 @@ use crate::rule::is_shared;
 use crate::weights::PLACES;
 use crate::weights::Weights;
 
-// A place gets what the pot's part for the places up to it, rounded down, has more than the part for those before it.
+// A place gets the difference of two parts of the pot, each rounded down: that of the places up to it, and that of the places before it.
 #[derive(Clone, Copy)]
 pub struct Running;
 

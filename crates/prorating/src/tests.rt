@@ -127,16 +127,28 @@ fn a_refused_weight_changes_nothing() -> Result<(), Fail> {
     check_eq(
         (weights.weight(1), weights.weight(48), weights.total()),
         (LIMIT - 7, 7, LIMIT),
-    )?;
-    check_eq(
-        (
-            weights.weight(0),
-            weights.weight(49),
-            weights.weight(u64::MAX),
-        ),
-        (0, 0, 0),
-    )?;
-    check(Weights::of(&[0; 49]).is_err())?;
-    check(Weights::of(&[LIMIT, 1]).is_err())?;
+    )
+}
+
+#[test]
+fn numbers_outside_the_places_weigh_nothing() -> Result<(), Fail> {
+    let weights = Weights::of(&[7; 48])?;
+    check_eq(weights.weight(1), 7)?;
+    check_eq(weights.weight(48), 7)?;
+    check_eq(weights.weight(0), 0)?;
+    check_eq(weights.weight(49), 0)?;
+    check_eq(weights.weight(u64::MAX), 0)
+}
+
+#[test]
+fn too_many_or_too_large_weights_make_no_list() -> Result<(), Fail> {
+    match Weights::of(&[0; 49]) {
+        Ok(_) => return Err(Fail::new("49 weights made a list")),
+        Err(refusal) => check_eq(refusal, Refusal::Place)?,
+    }
+    match Weights::of(&[LIMIT, 1]) {
+        Ok(_) => return Err(Fail::new("a total above the limit made a list")),
+        Err(refusal) => check_eq(refusal, Refusal::Total)?,
+    }
     check_eq((Refusal::Place.number(), Refusal::Total.number()), (2, 2))
 }

@@ -1,4 +1,4 @@
-// The weight list: a weight for each of 48 places, with a total that no list can have above the limit.
+// The weight list: a weight for each of 48 places. No list has a total above the limit.
 ghost use mathlib.Core.Path.{_≡_};
 ghost use mathlib.Core.Bool.{cond};
 ghost use Prim.Native.Nat.{_+_, _-_, _<_, _≤_};
@@ -95,7 +95,7 @@ impl Weights {
         self.at[index]
     }
 
-    // Puts a weight at a place, in the stead of the one that was there.
+    // Puts a weight at a place and drops the one that was there.
     pub fn put(&mut self, place: u64, weight: u64) -> Result<(), Refusal>
         ensures answered { λ r. ⌜ r ≡ put-answer (now (self .entry) .at) place weight ⌝ }
         ensures after { λ _. ⌜ now (self .exit) .at ≡ put-after (now (self .entry) .at) place weight ⌝ }

@@ -11,26 +11,26 @@ use Rattle.std.proofs.shelf.Ways.{tells}
 use Rattle.worth.specs.declared.line.Line.{Line}
 use Rattle.worth.specs.declared.line.Line.the-variants.{UpwardAvailability, UpwardActivation, Downward, OverCost, Opportunity, ExtraFuel, ExtraResource, ExtraWithdrawal}
 use Rattle.worth.specs.Limits.{within}
-use Rattle.worth.specs.Lines.{weighted, formula, worth}
+use Rattle.worth.specs.Lines.{needs-performance, formula, worth}
 use Rattle.worth.specs.Laws.{Laws, Less-than-a-cent-below, Never-both}
 use Rattle.worth.specs.Quotients.{_over_}
 
 -- How a worth depends on the factor: in proportion to it, rounded down, or not at all.
 record Proportional (line : Line) : Type 0 where
-  weighs : weighted line ≡ true
+  weighs : needs-performance line ≡ true
   rate : ℕ
   divisor : ℕ
   divides : 0 < divisor
   is : (factor : ℕ) → worth line factor ≡ rate * factor / divisor
 
 record Constant (line : Line) : Type 0 where
-  weighs-not : weighted line ≡ false
+  weighs-not : needs-performance line ≡ false
   is : (factor other : ℕ) → worth line other ≡ worth line factor
 
-proportional : (line : Line) (rate divisor : ℕ) → weighted line ≡ true → 0 < divisor → ((factor : ℕ) → worth line factor ≡ rate * factor / divisor) → Proportional line ⊎ Constant line
+proportional : (line : Line) (rate divisor : ℕ) → needs-performance line ≡ true → 0 < divisor → ((factor : ℕ) → worth line factor ≡ rate * factor / divisor) → Proportional line ⊎ Constant line
 proportional line rate divisor w pos is = inl (record { weighs = w; rate = rate; divisor = divisor; divides = pos; is = is })
 
-constant : (line : Line) → weighted line ≡ false → ((factor other : ℕ) → worth line other ≡ worth line factor) → Proportional line ⊎ Constant line
+constant : (line : Line) → needs-performance line ≡ false → ((factor other : ℕ) → worth line other ≡ worth line factor) → Proportional line ⊎ Constant line
 constant line w is = inr (record { weighs-not = w; is = is })
 
 dependence : (line : Line) → Proportional line ⊎ Constant line
@@ -55,14 +55,14 @@ falls line factor lower h =
     (λ (k : Constant line). omega (arith, k .is factor lower))
     (dependence line)
 
-nothing : (line : Line) → weighted line ≡ true → worth line 0 ≡ 0
+nothing : (line : Line) → needs-performance line ≡ true → worth line 0 ≡ 0
 nothing line w =
     ⊎-elim
     (λ (p : Proportional line). p .is 0 ∙ rw mul-zero (zero-div (p .divisor)))
     (λ (k : Constant line). absurd (both-ways _ (k .weighs-not) w))
     (dependence line)
 
-steady : (line : Line) (factor : ℕ) → weighted line ≡ false → (other : ℕ) → worth line other ≡ worth line factor
+steady : (line : Line) (factor : ℕ) → needs-performance line ≡ false → (other : ℕ) → worth line other ≡ worth line factor
 steady line factor w other =
     ⊎-elim
     (λ (p : Proportional line). absurd (both-ways _ w (p .weighs)))

@@ -1,4 +1,4 @@
--- What is true of every worth, whatever formula its kind has.
+-- What is true of the worth of every kind of line.
 use Prim.Native.Nat.{ℕ, _+_, _*_, _≤_, _<_}
 use mathlib.Core.Bool.{true, false}
 use mathlib.Core.Path.{_≡_}
@@ -6,7 +6,7 @@ use Rattle.worth.specs.declared.line.Line.{Line}
 use Rattle.worth.specs.declared.line.Line.the-variants.{OverCost, Opportunity}
 use Rattle.worth.specs.declared.quotient.Quotient.{Quotient}
 use Rattle.worth.specs.Limits.{within}
-use Rattle.worth.specs.Lines.{weighted, formula, worth}
+use Rattle.worth.specs.Lines.{needs-performance, formula, worth}
 
 -- So many cents are less than one cent below the quotient, and not above it.
 abbrev pub Less-than-a-cent-below : ℕ → Quotient → Type 0
@@ -17,14 +17,14 @@ pub record Laws (line : Line) (factor : ℕ) : Type 0 where
   -- the worth never grows when the factor falls
   pub falls : (lower : ℕ) → lower ≤ factor → worth line lower ≤ worth line factor
   -- a line that is weighted by the factor is worth nothing at factor 0
-  pub nothing : weighted line ≡ true → worth line 0 ≡ 0
+  pub nothing : needs-performance line ≡ true → worth line 0 ≡ 0
   -- one that is not is worth the same at every factor
-  pub steady : weighted line ≡ false → (other : ℕ) → worth line other ≡ worth line factor
+  pub steady : needs-performance line ≡ false → (other : ℕ) → worth line other ≡ worth line factor
   -- rounding takes less than one cent
   pub rounded : within line ≡ true → Less-than-a-cent-below (worth line factor) (formula line factor)
 
--- At the same prices a unit is not paid both for running dearer than the energy's price and for standing back from it:
--- over-cost and opportunity are never both above 0.
+-- At the same prices a unit is not paid both for energy that costs it more than the marginal cost and for energy that would have cost it
+-- less: over-cost and opportunity are never both above 0.
 pub record Never-both : Type 0 where
   pub at-the-same-prices :
       (variable marginal energy full injected factor other : ℕ) →

@@ -1,4 +1,4 @@
--- What has to be believed of the crate: the published formulas, their limits, and the laws above them.
+-- What has to be believed of the crate: the formulas of docs/WORTH.md, their limits, and the laws above them.
 pub mod Families
 pub mod Performances
 pub mod Quotients

@@ -41,15 +41,15 @@ allows (ExtraWithdrawal marginal withdrawn without) Frequency = false
 allows (ExtraWithdrawal marginal withdrawn without) Voltage = true
 
 -- whether the worth is weighted by the performance factor
-abbrev pub weighted : Line → Bool
-weighted (UpwardAvailability awarded reserve) = true
-weighted (UpwardActivation marginal energy) = false
-weighted (Downward awarded reserve seconds) = true
-weighted (OverCost variable marginal energy) = false
-weighted (Opportunity variable marginal full energy) = true
-weighted (ExtraFuel price dispatched full energy) = false
-weighted (ExtraResource price dispatched full energy) = false
-weighted (ExtraWithdrawal marginal withdrawn without) = false
+abbrev pub needs-performance : Line → Bool
+needs-performance (UpwardAvailability awarded reserve) = true
+needs-performance (UpwardActivation marginal energy) = false
+needs-performance (Downward awarded reserve seconds) = true
+needs-performance (OverCost variable marginal energy) = false
+needs-performance (Opportunity variable marginal full energy) = true
+needs-performance (ExtraFuel price dispatched full energy) = false
+needs-performance (ExtraResource price dispatched full energy) = false
+needs-performance (ExtraWithdrawal marginal withdrawn without) = false
 
 -- max(a − b, 0): a difference of natural numbers stops at 0
 abbrev pub excess : ℕ → ℕ → ℕ

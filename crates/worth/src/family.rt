@@ -3,7 +3,7 @@
 ghost use mathlib.Core.Path.{_≡_};
 ghost use Rattle.worth.specs.Families.{numbered as family-numbered, number as number-of};
 
-// What a service controls. Each family has its own standard of performance and its own pot.
+// What a service controls. Each family has its own standard of performance.
 #[derive(Clone, Copy, PartialEq, Eq, Debug)]
 pub enum Family {
     Frequency,

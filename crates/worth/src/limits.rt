@@ -16,9 +16,10 @@ const HIGHEST_ENERGY: u64 = 1_000_000;
 // The highest specific consumption, in thousandths of a fuel unit for a MWh.
 const HIGHEST_CONSUMPTION: u64 = 1_000_000;
 
-// The highest efficiency, in thousandths of a MWh for a unit of primary resource; the lowest divides, so it is not 0.
+// The highest efficiency, in thousandths of a MWh for a unit of primary resource.
 const HIGHEST_EFFICIENCY: u64 = 1_000_000;
 
+// The lowest. An efficiency divides, so it is not 0.
 const LOWEST_EFFICIENCY: u64 = 1;
 
 // Seconds in an hour, which an instruction cannot outlast.
@@ -92,42 +93,42 @@ impl Line {
     }
 }
 
-// Cents.
+// Whether a price in cents is within its limits.
 fn is_price(cents: u64) -> bool
     ensures { λ r. ⌜ r ≡ is-price cents ⌝ }
 {
     cents <= HIGHEST_PRICE
 }
 
-// kW.
+// Whether a reserve is.
 fn is_power(kw: u64) -> bool
     ensures { λ r. ⌜ r ≡ is-power kw ⌝ }
 {
     kw <= HIGHEST_POWER
 }
 
-// kWh.
+// Whether an energy is.
 fn is_energy(kwh: u64) -> bool
     ensures { λ r. ⌜ r ≡ is-energy kwh ⌝ }
 {
     kwh <= HIGHEST_ENERGY
 }
 
-// Seconds of the hour.
+// Whether an instruction's duration is.
 fn is_instruction(seconds: u64) -> bool
     ensures { λ r. ⌜ r ≡ is-instruction seconds ⌝ }
 {
     seconds <= HOUR
 }
 
-// Thousandths.
+// Whether a specific consumption is.
 fn is_consumption(thousandths: u64) -> bool
     ensures { λ r. ⌜ r ≡ is-consumption thousandths ⌝ }
 {
     thousandths <= HIGHEST_CONSUMPTION
 }
 
-// Thousandths.
+// Whether an efficiency is.
 fn is_efficiency(thousandths: u64) -> bool
     ensures { λ r. ⌜ r ≡ is-efficiency thousandths ⌝ }
 {

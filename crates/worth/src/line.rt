@@ -1,7 +1,7 @@
 // The eight kinds of hourly line: what each carries, its number, and the families that it may belong to.
 
 ghost use mathlib.Core.Path.{_≡_};
-ghost use Rattle.worth.specs.Lines.{kind as kind-of, allows as allows-of, weighted as weighted-of};
+ghost use Rattle.worth.specs.Lines.{kind as kind-of, allows as allows-of, needs-performance};
 use crate::family::Family;
 
 // What a unit did for a service in one hour, with the figures that its pay is worked out from.
@@ -91,7 +91,7 @@ impl Line {
 
     // Whether the worth is weighted by the unit's performance factor.
     pub fn needs_performance(&self) -> bool
-        ensures { λ r. ⌜ r ≡ weighted-of (now (self .entry)) ⌝ }
+        ensures { λ r. ⌜ r ≡ needs-performance (now (self .entry)) ⌝ }
     {
         match self {
             Line::UpwardAvailability { .. } | Line::Downward { .. } | Line::Opportunity { .. } =>

@@ -34,7 +34,7 @@ pub fn paid(count: u64, seconds: u64, limits: UnpaidLimits) -> bool
     seconds >= limits.seconds
 }
 
-// Whether load and duration are within their limits.
+// Whether load and duration are within their limits. The failure cost is no figure of a shedding but of the month.
 pub fn shedding_within_limits(kw: u64, seconds: u64) -> bool
     ensures { λ r. ⌜ r ≡ shedding-within kw seconds ⌝ }
 {

@@ -231,7 +231,9 @@ fn kinds_and_families() -> Result<(), Fail> {
     check_eq(Family::numbered(0), None)?;
     check_eq(Family::numbered(1), Some(Family::Frequency))?;
     check_eq(Family::numbered(2), Some(Family::Voltage))?;
-    check_eq(Family::numbered(3), None)
+    check_eq(Family::numbered(3), None)?;
+    check_eq(Family::Frequency.number(), 1)?;
+    check_eq(Family::Voltage.number(), 2)
 }
 
 // Hours of the month, unavailable hours, activation, and the factor in family 1 and in family 2.
@@ -304,6 +306,9 @@ fn sheddings() -> Result<(), Fail> {
     check(paid(5, 36_000, limits))?;
     check(!paid(5, 35_999, limits))?;
     check(!paid(4, 36_000, limits))?;
+    check(shedding_within_limits(1_000_000, 86_400))?;
+    check(!shedding_within_limits(1_000_001, 0))?;
+    check(!shedding_within_limits(0, 86_401))?;
     let cases = [
         (1_500, 2_000, 1_801, Some(1_500_833)),
         (10_000, 1_000_000, 86_400, Some(240_000_000_000)),
