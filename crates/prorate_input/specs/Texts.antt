@@ -1,4 +1,4 @@
--- The texts that are inputs, said by writing them: nothing here reads.
+-- The texts that are inputs, by how they are written.
 use mathlib.Core.Path.{_≡_}
 use mathlib.Core.List.{List, [], _∷_, _++_, map}
 use mathlib.Core.Logic.{_⊎_}

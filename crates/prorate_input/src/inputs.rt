@@ -1,4 +1,4 @@
-// A pot and the weights that it is parted by, as an input gives them.
+// A pot and the weights that it is shared over, as an input gives them.
 ghost use mathlib.Core.Path.{_≡_};
 ghost use Prim.Native.Nat.{_+_, _<_, _≤_};
 ghost use lib.ListN.{length, replicate, set, take};

@@ -1,4 +1,4 @@
-// Reads what the program is given: a pot, and the weights that it is parted by.
+// Reads what the program `prorate` is given: a pot, and the weights that it is shared over.
 //
 // The input is two lines. The first is the pot; the second is 1 to 48 weights with one space between each two.
 // A number is `0`, or 1 to 11 digits of which the first is not 0. The last line end may be missing.

@@ -57,8 +57,8 @@ fn read_lines(bytes: &[u8]) -> Result<Input, Fault>
     Ok(input)
 }
 
-// The pot and the weights that an input gives, or the first fault in reading order. An input is accepted just where it writes a
-// pot and weights, and then as these; `limited` says what follows of them, for callers.
+// The pot and the weights that an input gives, or the first fault in reading order. An input is accepted exactly where it writes a
+// pot and weights, and the answer is these; `limited` repeats for callers that they are within their limits.
 pub fn read(bytes: &[u8]) -> Result<Input, Fault>
     ensures value { λ r. ⌜ meaning r ≡ reading (now (bytes .entry)) ⌝ }
     ensures exact { λ r. ⌜ Exactly (now (bytes .entry)) (meaning r) ⌝ }

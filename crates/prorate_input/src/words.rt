@@ -19,7 +19,7 @@ fn with_digit(n: u64, digit: u8) -> u64
 }
 
 // The number that a field writes, if it writes one.
-pub fn number(field: &[u8]) -> Option<u64>
+pub(crate) fn number(field: &[u8]) -> Option<u64>
     ensures { λ r. ⌜ r ≡ number-of (now (field .entry)) ⌝ }
 {
     if !has_number_form(field) {
@@ -36,7 +36,7 @@ pub fn number(field: &[u8]) -> Option<u64>
 }
 
 // What stands before the first `mark`, and what follows it where there is one.
-pub fn cut(s: &[u8], mark: u8) -> (&[u8], Option<&[u8]>)
+pub(crate) fn cut(s: &[u8], mark: u8) -> (&[u8], Option<&[u8]>)
     ensures { λ r. ⌜ pieces mark r ≡ split mark (now (s .entry)) ⌝ }
 {
     for (i, b) in s.iter().enumerate() {
