@@ -1,13 +1,13 @@
 -- Two ways to share that break a law.
 use mathlib.Core.Path.{_≡_, refl, subst}
-use mathlib.Core.List.{List, [], _∷_}
+use mathlib.Core.List.{List, _∷_}
 use mathlib.Core.Logic.{⊎-elim}
-use Prim.Native.Nat.{ℕ, _<_}
+use Prim.Native.Nat.{ℕ}
 use native.Mathlib.Omega.{arith}
-use lib.ListN.{length, getD, set, replicate}
-use Rattle.std.proofs.shelf.Lists.{getD-set-same, getD-set-other}
+use lib.ListN.{getD, set, replicate}
+use Rattle.std.proofs.shelf.Lists.{getD-set-other}
 use Rattle.std.proofs.shelf.Tests.{cases-eq}
-use Rattle.prorating.specs.Weights.{Weighed, padded}
+use Rattle.prorating.specs.Weights.{Weighed}
 use Rattle.prorating.specs.Laws.{Near, No-rule-of-zeros, No-rule-for-one}
 
 -- two places of equal weight

@@ -1,0 +1,8 @@
+-- The number of each refusal: 2, a figure is outside its limits; 6, a replacement is barred.
+use Prim.Native.Nat.{ℕ}
+use Rattle.payers.specs.declared.refusal.Refusal.{Refusal}
+use Rattle.payers.specs.declared.refusal.Refusal.the-variants.{Limits, Replaced}
+
+abbrev pub number : Refusal → ℕ
+number Limits = 2
+number Replaced = 6
