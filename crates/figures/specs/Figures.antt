@@ -1,13 +1,17 @@
--- The worked figures of docs/RULES.md and docs/WORTH.md: what the definitions of shares, factors and worths have to give, in one table.
+-- The worked figures of docs/RULES.md, docs/PAYERS.md and docs/WORTH.md: what the definitions of shares, charges, factors and worths have
+-- to give, in one table.
 use mathlib.Core.Path.{_≡_}
 use mathlib.Core.Bool.{Bool, true, false, cond, _&&_}
 use mathlib.Core.List.{List, [], _∷_}
 use Prim.Native.Nat.{ℕ}
 use lib.Dec.{eqb}
-use lib.ListN.{take}
+use lib.ListN.{take, replicate}
+use Rattle.std.specs.Iters.{counting}
 use Rattle.prorating.specs.Weights.{padded}
 use Rattle.prorating.specs.Running.{running}
 use Rattle.prorating.specs.Largest.{largest}
+use Rattle.payers.specs.Charges.{charges-of}
+use Rattle.payers.specs.Replacements.{replace-after, moved}
 use Rattle.worth.specs.declared.family.Family.the-variants.{Frequency, Voltage}
 use Rattle.worth.specs.declared.line.Line.the-variants.{UpwardAvailability, UpwardActivation, Downward, OverCost, Opportunity, ExtraFuel, ExtraResource, ExtraWithdrawal}
 use Rattle.worth.specs.declared.performance.Performance.{Performance}
@@ -37,6 +41,13 @@ performance unavailable activation = record { unavailable = unavailable; activat
 abbrev pub first-three : (ℕ → List ℕ → List ℕ) → ℕ → List ℕ → List ℕ
 first-three share pot ws = take 3 (share pot (padded ws))
 
+-- The withdrawals of companies 1 to 3, and who takes part for whom once company 1 is replaced by company 3.
+abbrev pub withdrawals : List ℕ
+withdrawals = 100 ∷ 200 ∷ 400 ∷ replicate 29 0
+
+abbrev pub replaced : List ℕ
+replaced = replace-after (counting 1 32) 1 3
+
 abbrev pub table : List Row
 table =
     -- performance factors in a month of 720 hours
@@ -61,6 +72,8 @@ table =
     -- shares of a pot that leaves an odd cent
     ∷ (first-three running 45_001 (100 ∷ 200 ∷ 400 ∷ []) all-give 6_428 ∷ 12_858 ∷ 25_715 ∷ [])
     ∷ (first-three largest 45_001 (100 ∷ 200 ∷ 400 ∷ []) all-give 6_429 ∷ 12_857 ∷ 25_715 ∷ [])
+    -- and the charges of the same pot where company 3 takes part for company 1
+    ∷ (take 3 (charges-of running 45_001 (moved replaced withdrawals)) all-give 0 ∷ 12_857 ∷ 32_144 ∷ [])
     ∷ []
 
 abbrev pub same : List ℕ → List ℕ → Bool

@@ -1,4 +1,4 @@
-// The worked figures of the documents, held against the definitions of `prorating` and `worth`.
+// The worked figures of the documents, held against the definitions of `prorating`, `payers` and `worth`.
 ghost use Rattle.figures.specs.Figures.{Figures-hold};
 
 // Every worked figure is what the definitions give. The function does nothing: its contract is the statement.
