@@ -69,7 +69,7 @@ table =
     -- an installation and a shedding
     ∷ (installation-worth 1_200_000 60_007 gives 105_000)
     ∷ (shedding-worth 1_500 2_000 1_801 gives 1_500_833)
-    -- shares of a pot that leaves an odd cent
+    -- shares of a pot that leaves odd cents
     ∷ (first-three running 45_001 (100 ∷ 200 ∷ 400 ∷ []) all-give 6_428 ∷ 12_858 ∷ 25_715 ∷ [])
     ∷ (first-three largest 45_001 (100 ∷ 200 ∷ 400 ∷ []) all-give 6_429 ∷ 12_857 ∷ 25_715 ∷ [])
     -- and the charges of the same pot where company 3 takes part for company 1

@@ -13,12 +13,12 @@ use Rattle.std.specs.declared.result.Result.the-variants.{Ok, Err}
 use Rattle.payers.specs.Bases.{is-company, weight-of}
 use Rattle.payers.specs.Companies.{by-company}
 use Rattle.payers.specs.declared.refusal.Refusal.{Refusal}
-use Rattle.payers.specs.declared.refusal.Refusal.the-variants.{Limits, Replaced}
+use Rattle.payers.specs.declared.refusal.Refusal.the-variants.{Limits, Barred}
 
--- The one that takes part for a company: itself where it is not replaced; 0 for any other number.
--- A list has the one that takes part for company 1 first.
+-- The one that takes part for a company: itself where it is not replaced; 0 for any other number. A list has the one that takes part for
+-- company 1 first, and is read as a list of weights is.
 abbrev pub participant-of : List ℕ → ℕ → ℕ
-participant-of ps company = cond (is-company company) (getD ps (company - 1) 0) 0
+participant-of ps company = weight-of ps company
 
 -- Whether another takes part for a company.
 unfoldable pub is-replaced : List ℕ → ℕ → Bool
@@ -44,7 +44,7 @@ is-barred ps old new = eqb old new || is-replaced ps old || is-replaced ps new |
 abbrev pub replace-answer : List ℕ → ℕ → ℕ → Result (Unit {0}) Refusal
 replace-answer ps old new =
     cond (is-company old && is-company new)
-    (cond (is-barred ps old new) (Err Replaced) (Ok tt))
+    (cond (is-barred ps old new) (Err Barred) (Ok tt))
     (Err Limits)
 
 -- Those that take part afterwards: a refusal leaves them as they were.
@@ -67,7 +67,7 @@ moved ps ws = by-company (weight-moved ps ws)
 pub record Moves (ps before after : List ℕ) : Type 0 where
   -- weight is moved, none is made and none is lost
   pub total : sum after ≡ sum before
-  -- each company weighs what all those weighed that it takes part for
+  -- each company weighs what all those weighed that it takes part for, itself included
   pub taken : (company : ℕ) → is-company company ≡ true → weight-of after company ≡ weight-moved ps before company
   -- a replaced company weighs nothing
   pub replaced : (company : ℕ) → is-replaced ps company ≡ true → weight-of after company ≡ 0

@@ -11,7 +11,7 @@ use prorating::weights::PLACES;
 use prorating::weights::Weights;
 
 // The weights of a base, that of company 1 first.
-fn weights_of<B: PayerBase>(base: &B) -> [u64; COMPANIES]
+pub fn weights_of<B: PayerBase>(base: &B) -> [u64; COMPANIES]
     ensures { λ r. ⌜ r ≡ B·PayerBase .weights (now (base .entry)) ⌝ }
 {
     let mut weights = [0; COMPANIES];

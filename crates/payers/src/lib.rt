@@ -10,6 +10,7 @@ pub mod replacement;
 mod suspension;
 #[cfg(test)]
 mod tests;
+pub mod weights;
 pub mod zone;
 #[cfg(test)]
 mod zone_tests;

@@ -3,7 +3,7 @@ ghost use mathlib.Core.Path.{_≡_};
 ghost use lib.Dec.{leb};
 ghost use lib.ListN.{length};
 ghost use Rattle.std.specs.shelf.Lawful.{all-pass};
-ghost use Rattle.payers.specs.Zones.{is-within-limit as is-within, are-readings as are-such};
+ghost use Rattle.payers.specs.Zones.{is-within-limit as is-within, are-readings};
 
 // How many readings a shedding brings at most.
 pub const READINGS: usize = 48;
@@ -48,7 +48,7 @@ fn are_small(readings: &[Reading]) -> bool
 
 // Whether a shedding may bring these: at most 48, each within its limit.
 pub fn are_readings(readings: &[Reading]) -> bool
-    ensures { λ r. ⌜ r ≡ are-such (now (readings .entry)) ⌝ }
+    ensures { λ r. ⌜ r ≡ are-readings (now (readings .entry)) ⌝ }
 {
     are_few(readings) && are_small(readings)
 }

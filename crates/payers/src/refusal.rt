@@ -7,7 +7,7 @@ pub enum Refusal {
     // A figure, or a company's number, is outside its limits.
     Limits,
     // The two are one company, either is replaced already, or the old one takes part for another.
-    Replaced,
+    Barred,
 }
 
 impl Refusal {
@@ -17,7 +17,7 @@ impl Refusal {
     {
         match self {
             Refusal::Limits => 2,
-            Refusal::Replaced => 6,
+            Refusal::Barred => 6,
         }
     }
 }

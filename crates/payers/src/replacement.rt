@@ -80,7 +80,7 @@ impl Replacements {
             return Err(Refusal::Limits);
         }
         if self.is_barred(old, new) {
-            return Err(Refusal::Replaced);
+            return Err(Refusal::Barred);
         }
         self.participants[old as usize - 1] = new;
         Ok(())

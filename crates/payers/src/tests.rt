@@ -173,10 +173,7 @@ fn refused_meters_change_nothing() -> Result<(), Fail> {
         ),
         (FIGURE_LIMIT, 1),
     )?;
-    check_eq(
-        (Refusal::Limits.number(), Refusal::Replaced.number()),
-        (2, 6),
-    )
+    check_eq((Refusal::Limits.number(), Refusal::Barred.number()), (2, 6))
 }
 
 #[test]
@@ -187,12 +184,12 @@ fn refused_replacements_change_nothing() -> Result<(), Fail> {
     replacements.replace(3, 2)?;
     check_eq(replacements.replace(0, 4), Err(Refusal::Limits))?;
     check_eq(replacements.replace(4, 33), Err(Refusal::Limits))?;
-    check_eq(replacements.replace(4, 4), Err(Refusal::Replaced))?;
+    check_eq(replacements.replace(4, 4), Err(Refusal::Barred))?;
     // 1 is replaced already, as the old one and as the new one
-    check_eq(replacements.replace(1, 4), Err(Refusal::Replaced))?;
-    check_eq(replacements.replace(4, 1), Err(Refusal::Replaced))?;
+    check_eq(replacements.replace(1, 4), Err(Refusal::Barred))?;
+    check_eq(replacements.replace(4, 1), Err(Refusal::Barred))?;
     // 2 takes part for others
-    check_eq(replacements.replace(2, 4), Err(Refusal::Replaced))?;
+    check_eq(replacements.replace(2, 4), Err(Refusal::Barred))?;
     for (company, participant) in [(1, 2), (2, 2), (3, 2), (4, 4)] {
         check_eq(replacements.participant(company), participant)?;
     }

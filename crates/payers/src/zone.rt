@@ -8,7 +8,7 @@ ghost use Rattle.std.specs.declared.option.Option.the-variants.{Some};
 ghost use Rattle.std.specs.shelf.Lists.{sum};
 ghost use Rattle.prorating.specs.Weights.{limit};
 ghost use Rattle.payers.specs.Bases.{is-company};
-ghost use Rattle.payers.specs.Zones.{Owner, Summed, are-readings as are-such};
+ghost use Rattle.payers.specs.Zones.{Owner, Summed, are-readings};
 use crate::base::COMPANIES;
 use crate::base::PayerBase;
 use crate::company::entry_of;
@@ -54,7 +54,7 @@ fn add(kwh: &mut [u64; COMPANIES], company: u64, more: u64)
 
 // The kWh of the readings, each added to those of the unit's owner.
 fn summed<O: Owners>(readings: &[Reading], owners: &O, zone: u64) -> ZoneHour
-    requires { ⌜ are-such (now readings) ≡ true ⌝ }
+    requires { ⌜ are-readings (now readings) ≡ true ⌝ }
     ensures { λ r. ⌜ Summed (O·Owners .owner (now (owners .entry))) zone (now (readings .entry)) (r .kwh) ⌝ }
 {
     let mut kwh = [0; COMPANIES];
@@ -70,7 +70,7 @@ impl ZoneHour {
     // Each reading of a unit in the zone adds its kWh to those of the unit's owner; no other reading adds anything. None where these
     // are not readings that a shedding may bring.
     pub fn of<O: Owners>(readings: &[Reading], owners: &O, zone: u64) -> Option<ZoneHour>
-        ensures { λ r. ⌜ Cases r (are-such (now (readings .entry)) ≡ false) (λ hour. (are-such (now (readings .entry)) ≡ true) × Summed (O·Owners .owner (now (owners .entry))) zone (now (readings .entry)) (hour .kwh)) ⌝ }
+        ensures { λ r. ⌜ Cases r (are-readings (now (readings .entry)) ≡ false) (λ hour. (are-readings (now (readings .entry)) ≡ true) × Summed (O·Owners .owner (now (owners .entry))) zone (now (readings .entry)) (hour .kwh)) ⌝ }
     {
         if are_readings(readings) {
             Some(summed(readings, owners, zone))

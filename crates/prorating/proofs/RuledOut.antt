@@ -25,7 +25,8 @@ not-near : (share : ℕ) → (share ≡ 1 → ⊥) → Near 2 2 1 share → ⊥
 not-near share other near = omega (arith, near .above, near .below)
 
 pub no-rule-for-one : No-rule-for-one
-no-rule-for-one place near =
+no-rule-for-one choose near =
+    let place = choose 2 pair in
     ⊎-elim
     (λ (first : place ≡ 0). not-near 2 (λ e. omega arith) (subst (λ p. Near 2 2 1 (getD (set (replicate 48 0) p 2) 0 0)) first (near 2 pair 0 weighed refl (omega arith))))
     (λ other. not-near 0 (λ e. omega arith) (subst (Near 2 2 1) (getD-set-other (replicate 48 0) place 0 2 0 (λ e. other (omega arith))) (near 2 pair 0 weighed refl (omega arith))))

@@ -50,12 +50,12 @@ pub record Keeps (share : Sharing) : Type 0 where
   pub near : Each-near share
   pub weightless : Weightless share
 
--- What the laws rule out: shares that are all 0, and the whole pot for one place, whichever it is.
+-- What the laws rule out: shares that are all 0, and the whole pot for one place, however it is chosen.
 abbrev pub No-rule-of-zeros : Type 0
 No-rule-of-zeros = Whole (λ pot ws. replicate 48 0) → ⊥
 
 abbrev pub No-rule-for-one : Type 0
-No-rule-for-one = (place : ℕ) → Each-near (λ pot ws. set (replicate 48 0) place pot) → ⊥
+No-rule-for-one = (place : ℕ → List ℕ → ℕ) → Each-near (λ pot ws. set (replicate 48 0) (place pot ws) pot) → ⊥
 
 -- What the shares of every rule add up to.
 abbrev pub amount-shared : ℕ → List ℕ → ℕ
