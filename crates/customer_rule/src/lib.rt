@@ -1,4 +1,7 @@
 // An example of a customer's own rule: pots up to a threshold by the running rule, larger ones by the largest remainders.
+
+#![tactic(auto)]
+
 ghost use Rattle.std.specs.Prelude.{◌≡◌, leb, length, replicate, if◌then◌else◌, sum, nat_le, slice_index};
 ghost use Rattle.prorating.specs.Largest.{largest};
 ghost use Rattle.prorating.specs.Running.{running};

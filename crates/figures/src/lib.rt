@@ -1,4 +1,7 @@
 // The worked figures of the documents, held against the definitions of `prorating`, `payers` and `worth`.
+
+#![tactic(auto)]
+
 ghost use Rattle.figures.specs.Figures.{FiguresHold};
 
 // Every worked figure is what the definitions give. The function does nothing: its contract is the statement.

@@ -1,4 +1,7 @@
 // One month of ancillary services: its stages, its posts, and what each call answers.
+
+#![tactic(auto)]
+
 pub mod calls;
 pub mod figures;
 mod limits;

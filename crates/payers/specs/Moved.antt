@@ -4,7 +4,7 @@ use Rattle.std.proofs.Math.Path.{sym, ap, subst}
 use Rattle.std.proofs.Common.{◌∙◌, arith}
 use Rattle.std.proofs.Math.Logic.{⊎_elim}
 use Rattle.std.specs.List.{range_with_len}
-use Rattle.std.proofs.lemmas.Bool.{cases_Bool, cases_eq, cond-true, cond-false, eqb-false, not-true, and_parts}
+use Rattle.std.proofs.lemmas.Bool.{cases_Bool, cases_eq, cond-true, cond-false, eqb-false, not-true}
 use Rattle.std.proofs.lemmas.Bool.Decides.{nat_tests}
 use Rattle.prorating.specs.Weights.{limit}
 use Rattle.payers.specs.Bases.{is_company, weight_of, Based}
@@ -66,14 +66,14 @@ module _ (ps : List ℕ) (each : (k : ℕ) → k < 32 → TakesPart ps k) where
     replaced_none company replaced =
         sum_same (part_moved ps ws company) (λ _. 0) 1 32
         (λ one low high. only_elsewhere (participant_of ps one) (weight_of ws one) company
-        (λ takes. eqb-false (participant_of ps company) company (not-true _ (and_parts _ _ replaced).1) (subst (λ p. participant_of ps p ≡ p) takes (participant_own one low high))))
+        (λ takes. eqb-false (participant_of ps company) company (not-true _ replaced) (subst (λ p. participant_of ps p ≡ p) takes (participant_own one low high))))
         ∙ sum_zero (range_with_len 1 32)
 
     -- one that takes part for itself alone
     apart_same : (company : ℕ) → is_company company ≡ true → is_replaced ps company ≡ false → is_substitute ps company ≡ false → weight_moved ps ws company ≡ weight_of ws company
     unfolding weight_moved
     apart_same company there own alone =
-        let itself = takes_part_itself ps company there own in
+        let itself = takes_part_itself ps company own in
         sum_same (part_moved ps ws company) (only company (weight_of ws company)) 1 32
         (λ one low high. ⊎_elim
         (λ same.

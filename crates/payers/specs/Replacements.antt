@@ -11,9 +11,9 @@ use Rattle.payers.specs.declared.refusal.Refusal.TheVariants.{Limits, Barred}
 abbrev pub participant_of : List ℕ → ℕ → ℕ
 participant_of ps company = weight_of ps company
 
--- Whether another takes part for a company; not for any other number.
+-- Whether another takes part for a company.
 unfoldable pub is_replaced : List ℕ → ℕ → Bool
-is_replaced ps company = is_company company && not (participant_of ps company == company)
+is_replaced ps company = not (participant_of ps company == company)
 
 -- Whether a company takes part for this other one.
 abbrev pub takes_part_for : List ℕ → ℕ → ℕ → Bool

@@ -50,13 +50,9 @@ module _ (ps : List ℕ) (long : length ps ≡ 32) (each : (k : ℕ) → k < 32 
       rw here (company, weight_next ps k h ∙ here)
 
 -- a company that is not replaced takes part for itself
-pub takes_part_itself : (ps : List ℕ) (company : ℕ) → is_company company ≡ true → is_replaced ps company ≡ false → participant_of ps company ≡ company
+pub takes_part_itself : (ps : List ℕ) (company : ℕ) → is_replaced ps company ≡ false → participant_of ps company ≡ company
 unfolding is_replaced
-takes_part_itself ps company there own =
-    ⊎_elim
-    (λ outside. absurd (both_ways _ outside there))
-    (λ same. eqb-true _ _ (not-false _ same))
-    (and_cases (is_company company) _ own)
+takes_part_itself ps company own = eqb-true _ _ (not-false _ own)
 
 -- nobody but itself has it take part
 pub substitute_of_none : (ps : List ℕ) (company : ℕ) → ((other : ℕ) → 1 ≤ other → other < 33 → participant_of ps other ≡ company → other ≡ company) → is_substitute ps company ≡ false
@@ -83,7 +79,7 @@ module _ (ps : List ℕ) (long : length ps ≡ 32) (each : (k : ℕ) → k < 32 
   old_alone = (or_parts _ _ (sym free)).1
 
   new_itself : participant_of ps new ≡ new
-  new_itself = takes_part_itself ps new is_new (or_parts _ _ (or_parts _ _ (sym free)).0).1
+  new_itself = takes_part_itself ps new (or_parts _ _ (or_parts _ _ (sym free)).0).1
 
   other_stays : (company : ℕ) → (company ≢ old) → participant_of (slice_set ps (old - 1) new) company ≡ participant_of ps company
   other_stays company apart =
@@ -107,7 +103,7 @@ module _ (ps : List ℕ) (long : length ps ≡ 32) (each : (k : ℕ) → k < 32 
       (cases_eq k (old - 1))
 
   old_itself : participant_of ps old ≡ old
-  old_itself = takes_part_itself ps old is_old (or_parts _ _ (or_parts _ _ (or_parts _ _ (sym free)).0).0).1
+  old_itself = takes_part_itself ps old (or_parts _ _ (or_parts _ _ (or_parts _ _ (sym free)).0).0).1
 
   old_moves : participant_of (slice_set ps (old - 1) new) old ≡ new
   old_moves =
@@ -126,12 +122,10 @@ module _ (ps : List ℕ) (long : length ps ≡ 32) (each : (k : ℕ) → k < 32 
   unfolding is_replaced
   replaced_after company = go (old == company) refl
     where
-      go : (t : Bool) → (old == company) ≡ t → (is_company company && not (participant_of (slice_set ps (old - 1) new) company == company)) ≡ (t || (is_company company && not (participant_of ps company == company)))
+      go : (t : Bool) → (old == company) ≡ t → not (participant_of (slice_set ps (old - 1) new) company == company) ≡ (t || not (participant_of ps company == company))
       go true e =
-          let same = eqb-true old company e in
-          and_from _ _ (ap is_company (sym same) ∙ is_old)
-          (not_from_false _ (ne_eqb _ _ (λ moved. differ (same ∙ sym moved ∙ ap (participant_of (slice_set ps (old - 1) new)) (sym same) ∙ old_moves))))
-      go false e = ap (λ p. is_company company && not (p == company)) (other_stays company (λ same. eqb-false old company e (sym same)))
+          not_from_false _ (ne_eqb _ _ (λ moved. differ (eqb-true old company e ∙ sym moved ∙ ap (participant_of (slice_set ps (old - 1) new)) (sym (eqb-true old company e)) ∙ old_moves)))
+      go false e = ap (λ p. not (p == company)) (other_stays company (λ same. eqb-false old company e (sym same)))
 
   pub substitute_after : (company : ℕ) → is_substitute (slice_set ps (old - 1) new) company ≡ (new == company || is_substitute ps company)
   substitute_after company = go (new == company) (is_substitute ps company) (is_substitute (slice_set ps (old - 1) new) company) refl refl refl

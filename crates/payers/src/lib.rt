@@ -1,4 +1,7 @@
 // Who pays for a pot: payer bases, replacement over any base, and charging, written once for every base and every rule.
+
+#![tactic(auto)]
+
 pub mod base;
 pub mod charging;
 mod company;

@@ -36,11 +36,11 @@ impl Replacements {
         entry_of(&self.participants, company)
     }
 
-    // Whether another takes part for a company; not for any other number.
+    // Whether another takes part for a company.
     fn is_replaced(&self, company: u64) -> bool
         ensures { result ≡ is_replaced_in self.now.participants company }
     {
-        is_company(company) && self.participant(company) != company
+        self.participant(company) != company
     }
 
     // Whether a company takes part for this other one.

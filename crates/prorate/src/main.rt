@@ -1,4 +1,7 @@
 // Shares a pot over weights by both rules, and prints the shares side by side.
+
+#![tactic(auto)]
+
 mod table;
 #[cfg(test)]
 mod tests;

@@ -1,3 +1,5 @@
+pub mod Digits
+pub mod Pieces
 pub mod Steps
 pub mod Fields
 pub mod Exact

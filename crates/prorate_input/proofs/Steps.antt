@@ -4,9 +4,9 @@ use Rattle.std.specs.Option.{ok_or}
 use Rattle.std.proofs.lemmas.Bool.Decides.{nat_tests}
 use Rattle.prorate_input.specs.declared.faults.Fault.{Fault}
 use Rattle.prorate_input.specs.declared.faults.Fault.TheVariants.{BadWeight, TooManyWeights}
-use Rattle.words.specs.Words.{number_of, onto, split}
+use Rattle.prorate_input.specs.Words.{number_of, onto, split}
 use Rattle.prorate_input.specs.Reading.{and_then, weights_from, at_end}
-use Rattle.words.proofs.Pieces.{first_piece}
+use Rattle.prorate_input.proofs.Pieces.{first_piece}
 
 -- nothing follows just where the pieces are those of the empty text
 pub split_end : (mark : ℕ) (s : List ℕ) → at_end (split mark s) ≡ eqb (length s) 0

@@ -1,13 +1,13 @@
 // The reader of a whole input.
 ghost use Rattle.std.specs.Prelude.{◌≡◌};
-ghost use Rattle.words.specs.Words.{following};
+ghost use Rattle.prorate_input.specs.Words.{following};
 ghost use Rattle.prorate_input.specs.Reading.{with_weights, at_end, reading};
 ghost use Rattle.prorate_input.specs.Meaning.{meaning};
 ghost use Rattle.prorate_input.specs.Texts.{Exactly, Limited};
 
 use crate::faults::Fault;
 use crate::inputs::{Input, MAX_WEIGHTS};
-use words::{cut, number};
+use crate::words::{cut, number};
 
 // The pot, with the weights that the second line writes.
 fn read_weights(pot: u64, line: &[u8]) -> Result<Input, Fault>

@@ -1,4 +1,7 @@
 // Prorating: a pot of cents is shared over 48 places by their weights, and nothing is lost.
+
+#![tactic(auto)]
+
 pub mod built_in;
 pub mod largest;
 mod parts;

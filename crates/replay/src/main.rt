@@ -1,4 +1,7 @@
 // Makes the calls of a script on a month, and prints the answer to each, and then the figures and the charges.
+
+#![tactic(auto)]
+
 mod report;
 #[cfg(test)]
 mod tests;

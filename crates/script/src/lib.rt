@@ -20,6 +20,9 @@
 // The last line may be `payments running` or `payments largest`: it is no call, and names the rule of the payments.
 //
 // Any other line is no call. Figures of any size are read: the month judges their limits.
+
+#![tactic(auto)]
+
 pub mod fault;
 pub mod line;
 mod number;

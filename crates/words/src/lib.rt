@@ -1,4 +1,7 @@
 // The words of a text: the number that a field writes, and where a line or a field ends.
+
+#![tactic(auto)]
+
 ghost use Rattle.std.specs.Prelude.{◌≡◌, ◌+◌, ◌-◌, ◌*◌, ◌^◌, ◌<◌, ◌≤◌};
 ghost use Rattle.words.specs.Words.{number_form, number_of, split, pieces};
 

@@ -1,6 +1,8 @@
 // What one month's ancillary services are worth: the performance factor of a unit, the eight kinds of
 // hourly line, installations and sheddings. Amounts are whole US cents; nothing here knows a month.
 
+#![tactic(auto)]
+
 mod family;
 mod formula;
 mod installation;

@@ -1,6 +1,6 @@
 -- Nothing follows where what follows is empty.
 use Rattle.std.proofs.Common.{sym, ap, ◌∙◌}
-use Rattle.words.specs.Words.{following}
+use Rattle.prorate_input.specs.Words.{following}
 use Rattle.prorate_input.specs.Reading.{at_end}
 use Rattle.prorate_input.proofs.Steps.{split_end}
 use Rattle.prorate_input.proofs.reader.is_end.Goals as goal

@@ -1,7 +1,7 @@
 -- A turn takes one field from what is left to what is done.
 use Rattle.std.proofs.Common.{◌≡◌, ◌+◌, ◌<◌, [], ◌∷◌, ◌++◌, length, take, Ok, sym, ap, ◌∙◌, arith, length-set, rules}
 use Rattle.std.proofs.lemmas.List.{take_more_set}
-use Rattle.words.specs.Words.{following}
+use Rattle.prorate_input.specs.Words.{following}
 use Rattle.prorate_input.specs.Reading.{and_then, weights_from}
 use Rattle.prorate_input.proofs.Steps.{after, turn_good, too_many}
 use Rattle.prorate_input.proofs.reader.read_weights.Goals as goal

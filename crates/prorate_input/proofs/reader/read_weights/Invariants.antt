@@ -1,6 +1,6 @@
 -- What is done and what is left of the line give its weights.
 use Rattle.std.proofs.Common.{◌≡◌, ◌+◌, length, take}
-use Rattle.words.specs.Words.{split}
+use Rattle.prorate_input.specs.Words.{split}
 use Rattle.prorate_input.specs.Reading.{weights_from}
 use Rattle.prorate_input.proofs.Steps.{after}
 use Rattle.prorate_input.proofs.reader.read_weights.Given as goal

@@ -1,0 +1,63 @@
+-- The pieces of a text.
+use Rattle.std.proofs.Common.{◌≡◌, ℕ, zero, suc, ◌+◌, ◌<◌, Bool, true, false, cond, eqb, List, [], ◌∷◌, ◌++◌, length, get_or, take, drop, sym, refl, ap, ◌∙◌, add-one, arith, eq-eqb, ne_eqb, eqb-true}
+use Rattle.std.specs.Str.Iter.{LacksByte}
+use Rattle.std.specs.List.{join_with_byte}
+use Rattle.prorate_input.specs.Words.{onto, split}
+
+-- the first piece ends before the first mark
+pub split_at : (mark : ℕ) (s : List ℕ) (i : ℕ) → i < length s → get_or s i 0 ≡ mark → ((k : ℕ) → k < i → get_or s k 0 ≡ mark → ⊥) → split mark s ≡ take i s ∷ split mark (drop (i + 1) s)
+split_at mark [] i l e before = absurd (omega arith)
+split_at mark (c ∷ s) zero l e before = let t = eq-eqb c mark e in rw t
+split_at mark (c ∷ s) (suc i) l e before =
+    let h = split_at mark s i (omega arith) e (λ k lt. before (suc k) (omega arith)) in
+    let n : eqb c mark ≡ false = ne_eqb c mark (before 0 (omega arith)) in
+    let k = rw add-one at h in
+    rw (n, add-one, k)
+
+-- a text with no mark is one piece
+pub split_none : (mark : ℕ) (s : List ℕ) → LacksByte mark s → split mark s ≡ s ∷ []
+split_none mark [] free = refl
+split_none mark (c ∷ s) free =
+    let h = split_none mark s (λ k lt. free (suc k) (omega arith)) in
+    let n : eqb c mark ≡ false = ne_eqb c mark (free 0 (omega arith)) in
+    rw (n, h)
+
+-- there is always a first piece
+pub first_piece : (mark : ℕ) (s : List ℕ) → (f : List ℕ) × (fs : List (List ℕ)) × (split mark s ≡ f ∷ fs)
+first_piece mark [] = ([], [], refl)
+first_piece mark (c ∷ s) = by (eqb c mark) (split mark s)
+  where
+    by : (b : Bool) (ps : List (List ℕ)) → (f : List ℕ) × (fs : List (List ℕ)) × (cond b ([] ∷ ps) (onto c ps) ≡ f ∷ fs)
+    by true ps = ([], ps, refl)
+    by false [] = (c ∷ [], [], refl)
+    by false (p ∷ ps) = (c ∷ p, ps, refl)
+
+-- the same of a text that is put together
+pub split_first : (mark : ℕ) (f s : List ℕ) → LacksByte mark f → split mark (f ++ mark ∷ s) ≡ f ∷ split mark s
+split_first mark [] s free = let t = eq-eqb mark mark refl in rw t
+split_first mark (c ∷ f) s free =
+    let h = split_first mark f s (λ k lt. free (suc k) (omega arith)) in
+    let n : eqb c mark ≡ false = ne_eqb c mark (free 0 (omega arith)) in
+    rw (n, h)
+
+pub lacks_cons : (b c : ℕ) (s : List ℕ) → (c ≡ b → ⊥) → LacksByte b s → LacksByte b (c ∷ s)
+lacks_cons b c s ne free zero l e = ne e
+lacks_cons b c s ne free (suc k) l e = free k (omega arith) e
+
+pub lacks_append : (b : ℕ) (f s : List ℕ) → LacksByte b f → LacksByte b s → LacksByte b (f ++ s)
+lacks_append b [] s hf hs = hs
+lacks_append b (c ∷ f) s hf hs = lacks_cons b c (f ++ s) (hf 0 (omega arith)) (lacks_append b f s (λ k lt. hf (suc k) (omega arith)) hs)
+
+-- the pieces with the mark between each two are the text
+pub rejoined_split : (mark : ℕ) (s : List ℕ) → join_with_byte mark (split mark s) ≡ s
+rejoined_split mark [] = refl
+rejoined_split mark (c ∷ s) =
+    let p = first_piece mark s in
+    ap (λ ps. join_with_byte mark (cond (eqb c mark) ([] ∷ ps) (onto c ps))) p.2
+    ∙ by (eqb c mark) p.0 p.1 refl
+    ∙ ap (λ t. c ∷ t) (ap (join_with_byte mark) (sym p.2) ∙ rejoined_split mark s)
+  where
+    by : (b : Bool) (f : List ℕ) (fs : List (List ℕ)) → eqb c mark ≡ b → join_with_byte mark (cond b ([] ∷ f ∷ fs) ((c ∷ f) ∷ fs)) ≡ c ∷ join_with_byte mark (f ∷ fs)
+    by true f fs e = ap (λ m. m ∷ join_with_byte mark (f ∷ fs)) (sym (eqb-true c mark e))
+    by false f [] e = refl
+    by false f (g ∷ fs) e = refl
