@@ -25,4 +25,4 @@ invariant_of-self c =
     let inside : c.in-Some.index < length ws = omega arith in
     let total = put_total ws c.in-Some.index inside c.args.weight in
     let joined = c.if-not-joins.ensures in
-    (simp length-set c.args.self.now.long, (omega arith, (grind (arith, nat_tests), tt)))
+    record { long = simp length-set c.args.self.now.long; summed = omega arith; light = grind (arith, nat_tests) }
