@@ -21,7 +21,7 @@ add-requires g c =
     let below : company - 1 < 32 = grind (arith, nat_tests) in
     let same = ap (λ ws. get_or ws (company - 1) 0) c.loop-reading.invariant in
     let fits = weight_fits (g.O.Owners.owner s) zone (g.met.O.Owners.company s) rs i (company - 1) c.requires c.loop-reading-test.true below in
-    (one, omega (arith, same, fits))
+    record { company_value = one; more_bound = omega (arith, same, fits) }
 
 pub loop-reading-preserved : goal.loop-reading-preserved
 loop-reading-preserved g c =
@@ -47,7 +47,7 @@ invariant_of-result g c =
     let o = g.O.Owners.owner s in
     let made = weights_all o zone rs c.loop-reading.kwh c.loop-reading.reading-index c.loop-reading.invariant c.loop-reading-test.false in
     let light = weights_light o zone (g.met.O.Owners.company s) rs c.requires in
-    (ap length made ∙ weights_long o zone rs, (omega (arith, ap sum made, light), tt))
+    record { long = ap length made ∙ weights_long o zone rs; light = omega (arith, ap sum made, light) }
 
 pub returns : goal.returns
 returns g c =

@@ -12,13 +12,10 @@ invariant_of-self c =
     let withdrawals_inside : index < length meters.withdrawals = grind (arith, nat_tests) in
     let injections_inside : index < length meters.injections = grind (arith, nat_tests) in
     let withdrawals_within : c.args.withdrawals ≤ figure_limit = grind (arith, nat_tests) in
-    let injections_within : c.args.injections ≤ figure_limit = grind (arith, nat_tests) in (
-      simp length-set meters.withdrawals_long,
-      (
-        simp length-set meters.injections_long,
-        (
-          set_small meters.withdrawals index c.args.withdrawals withdrawals_inside withdrawals_within meters.withdrawals_small,
-          (set_small meters.injections index c.args.injections injections_inside injections_within meters.injections_small, tt),
-        ),
-      ),
-    )
+    let injections_within : c.args.injections ≤ figure_limit = grind (arith, nat_tests) in
+    record {
+      withdrawals_long = simp length-set meters.withdrawals_long;
+      injections_long = simp length-set meters.injections_long;
+      withdrawals_small = set_small meters.withdrawals index c.args.withdrawals withdrawals_inside withdrawals_within meters.withdrawals_small;
+      injections_small = set_small meters.injections index c.args.injections injections_inside injections_within meters.injections_small;
+    }

@@ -9,7 +9,7 @@ loop-k-preserved c =
     (simp length-set c.loop-k.invariant.0, fill_by_more (λ j. j + 1) c.loop-k.participants c.loop-k.k 0 room c.loop-k.invariant.1)
 
 pub invariant_of-result : goal.invariant_of-result
-invariant_of-result c = (c.loop-k.invariant.0, (own_takes_part c.loop-k.participants c.loop-k.invariant.0 (λ k h. c.loop-k.invariant.1 k (omega arith)), tt))
+invariant_of-result c = record { long = c.loop-k.invariant.0; each = own_takes_part c.loop-k.participants c.loop-k.invariant.0 (λ k h. c.loop-k.invariant.1 k (omega arith)) }
 
 pub returns : goal.returns
 returns c = own_all c.loop-k.participants c.loop-k.invariant.0 (λ k h. c.loop-k.invariant.1 k (omega arith))

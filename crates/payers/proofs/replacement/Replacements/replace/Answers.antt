@@ -8,4 +8,4 @@ invariant_of-self c =
     let is_old = sym c.if-not-is_company.ensures in
     let is_new = sym c.if-not-is_company-2.ensures in
     let free = c.if-is_barred.ensures in
-    (simp length-set s.long, (replaced_takes_part s.participants s.long s.each c.args.old c.args.new is_old is_new free, tt))
+    record { long = simp length-set s.long; each = replaced_takes_part s.participants s.long s.each c.args.old c.args.new is_old is_new free }
