@@ -25,8 +25,8 @@ infix 3 ◌gives◌
 abbrev pub ◌gives◌ : ℕ → ℕ → Row
 given gives worked = record { given = given ∷ []; worked = worked ∷ [] }
 
-infix 3 ◌all-give◌
-abbrev pub ◌all-give◌ : List ℕ → List ℕ → Row
+infix 3 ◌all_give◌
+abbrev pub ◌all_give◌ : List ℕ → List ℕ → Row
 given all_give worked = record { given = given; worked = worked }
 
 abbrev performance : ℕ → ℕ → Performance

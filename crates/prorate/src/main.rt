@@ -10,6 +10,7 @@ use prorate_input::{Fault, Input, read};
 use prorating::refusal::Refusal;
 use prorating::weights::{LIMIT, PLACES, Weights};
 use std::io::Read;
+use std::process::ExitCode;
 use std::{fmt, io};
 use table::{Table, Unshared};
 
@@ -105,12 +106,12 @@ fn run(rt: &HostRuntime) -> Result<(), Failure> {
     Ok(())
 }
 
-fn main(rt: HostRuntime) -> Result<(), Failure> {
+fn main(rt: HostRuntime) -> io::Result<ExitCode> {
     match run(&rt) {
-        Ok(()) => Ok(()),
+        Ok(()) => Ok(ExitCode::SUCCESS),
         Err(failure) => {
             eprintln!(rt; "prorate: {failure}")?;
-            Err(failure)
+            Ok(ExitCode::FAILURE)
         }
     }
 }
