@@ -7,16 +7,17 @@ use Rattle.tables.proofs.accounts.Accounts.give_pot.Goals as goal
 pub invariant_of-self : goal.invariant_of-self
 invariant_of-self c =
     let a = c.args.self.now in
-    let room : a.count < 16 = omega (arith, leb-false _ _ (sym c.if-is_full.ensures), pots_long a.sheddings a.count (omega arith)) in (
-      a.earned_long,
-      (
-        a.services_long,
-        (
-          length-set a.sheddings a.count _ ∙ a.sheddings_long,
-          (omega arith, (a.light, (a.earned_sum, (a.earned_small, (a.services_small, tt))))),
-        ),
-      ),
-    )
+    let room : a.count < 16 = omega (arith, leb-false _ _ (sym c.if-is_full.ensures), pots_long a.sheddings a.count (omega arith)) in
+    record {
+      earned_long = a.earned_long;
+      services_long = a.services_long;
+      sheddings_long = length-set a.sheddings a.count _ ∙ a.sheddings_long;
+      few = omega arith;
+      light = a.light;
+      earned_sum = a.earned_sum;
+      earned_small = a.earned_small;
+      services_small = a.services_small;
+    }
 
 pub returns : goal.returns
 returns c =

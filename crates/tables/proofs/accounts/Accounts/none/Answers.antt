@@ -3,13 +3,14 @@ use Rattle.tables.proofs.Entries.{getD_all}
 use Rattle.tables.proofs.accounts.Accounts.none.Goals as goal
 
 pub invariant_of-result : goal.invariant_of-result
-invariant_of-result c = (
-  search rules,
-  (
-    search rules,
-    (
-      search rules,
-      (omega arith, (omega arith, (refl, (λ k. omega (arith, getD_all {X = ℕ} 0 32 k), (λ k. omega (arith, getD_all {X = ℕ} 0 3 k), tt))))),
-    ),
-  ),
-)
+invariant_of-result c =
+    record {
+      earned_long = search rules;
+      services_long = search rules;
+      sheddings_long = search rules;
+      few = omega arith;
+      light = omega arith;
+      earned_sum = refl;
+      earned_small = λ k. omega (arith, getD_all {X = ℕ} 0 32 k);
+      services_small = λ k. omega (arith, getD_all {X = ℕ} 0 3 k);
+    }

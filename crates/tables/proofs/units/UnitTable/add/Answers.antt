@@ -11,16 +11,13 @@ bounds-self-self c =
 pub invariant_of-self : goal.invariant_of-self
 invariant_of-self c =
     let t = c.args.self.now in
-    let ok = addable t.rows t.count c.args.number c.args.owner t.long t.few (sym c.is_addable.ensures ∙ c.if-is_addable.true) in (
-      added_long t.rows t.count _ t.long,
-      (
-        omega (arith, ok.room),
-        (
-          added_owned t.rows t.count _ _ _ _ t.long ok c.fresh.ensures t.owned,
-          (added_once t.rows t.count _ _ _ _ t.long ok c.fresh.ensures t.once, tt),
-        ),
-      ),
-    )
+    let ok = addable t.rows t.count c.args.number c.args.owner t.long t.few (sym c.is_addable.ensures ∙ c.if-is_addable.true) in
+    record {
+      long = added_long t.rows t.count _ t.long;
+      few = omega (arith, ok.room);
+      owned = added_owned t.rows t.count _ _ _ _ t.long ok c.fresh.ensures t.owned;
+      once = added_once t.rows t.count _ _ _ _ t.long ok c.fresh.ensures t.once;
+    }
 
 pub returns-then-is_addable : goal.returns-then-is_addable
 returns-then-is_addable c =

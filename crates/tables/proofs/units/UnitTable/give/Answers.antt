@@ -6,7 +6,10 @@ use Rattle.tables.proofs.units.UnitTable.give.Goals as goal
 pub invariant_of-self : goal.invariant_of-self
 invariant_of-self c =
     let t = c.args.self.now in
-    let k = kept (with_line c.args.hour c.args.line.now) (λ r. refl) (λ r. refl) t.rows t.count c.args.unit c.in-Some.index _ c.in-Some.ensures c.give.ensures (record { long = t.long; owned = t.owned; once = t.once }) in (
-      k.long,
-      (t.few, (k.owned, (k.once, tt))),
-    )
+    let k = kept (with_line c.args.hour c.args.line.now) (λ r. refl) (λ r. refl) t.rows t.count c.args.unit c.in-Some.index _ c.in-Some.ensures c.give.ensures (record { long = t.long; owned = t.owned; once = t.once }) in
+    record {
+      long = k.long;
+      few = t.few;
+      owned = k.owned;
+      once = k.once;
+    }
