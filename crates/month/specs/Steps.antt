@@ -1,7 +1,8 @@
 -- What each call answers, and the book that it leaves.
-use Rattle.std.specs.Prelude.{ℕ, Bool, true, false, List, [], ◌∷◌, ◌++◌, length, Some, None, Ok, Err, Option}
+use Rattle.std.specs.Prelude.{ℕ, Bool, true, false, ◌&&◌, List, [], ◌∷◌, ◌++◌, length, Some, None, Ok, Err, Option}
 use Rattle.std.specs.Option.{unwrap_or}
 use Rattle.prorating.specs.Laws.{Sharing}
+use Rattle.payers.specs.Bases.{is_company}
 use Rattle.payers.specs.Replacements.{is_replaced, is_substitute}
 use Rattle.tables.specs.declared.units.Place.{Place}
 use Rattle.tables.specs.declared.units.UnitRow.{UnitRow}
@@ -43,7 +44,7 @@ shown b =
       phase = b.phase;
       terms = b.terms;
       registered = λ c. entry 32 false b.registered c;
-      replaced = λ c. is_replaced b.participants c;
+      replaced = λ c. is_company c && is_replaced b.participants c;
       replaces = λ c. is_substitute b.participants c;
       place = λ u. IsPlaceIn (find b.units u);
       units = length b.units;

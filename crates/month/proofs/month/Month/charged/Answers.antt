@@ -21,7 +21,7 @@ loop-k-preserved g c =
     )
 
 pub invariant_of-result : goal.invariant_of-result
-invariant_of-result g c = (c.loop-k.invariant.2, tt)
+invariant_of-result g c = record { small = c.loop-k.invariant.2 }
 
 pub returns : goal.returns
 unfolding charged
