@@ -20,7 +20,7 @@ itself c there =
     let high : c - 1 < 32 = grind (arith, nat_tests) in
     cond-true _ _ 0 there ∙ get_or-range_with_len 1 32 (c - 1) 0 high ∙ omega arith
 
-nobody_replaced : (c : ℕ) → is_replaced (range_with_len 1 32) c ≡ false
+nobody_replaced : (c : ℕ) → (is_company c && is_replaced (range_with_len 1 32) c) ≡ false
 unfolding is_replaced
 nobody_replaced c = go (is_company c) refl
   where

@@ -5,7 +5,7 @@ use Rattle.std.proofs.lemmas.Bool.Decides.{nat_tests}
 use Rattle.std.proofs.lemmas.List.Sums.{sum_by-append, sum_by-cons}
 use Rattle.prorating.specs.Weights.{limit}
 use Rattle.payers.specs.Bases.{is_company}
-use Rattle.payers.specs.Replacements.{is_barred, TakesPart}
+use Rattle.payers.specs.Replacements.{is_barred, is_replaced, is_substitute, TakesPart}
 use Rattle.payers.specs.Substitutes.{participant_after, replaced_after, substitute_after}
 use Rattle.tables.specs.Accounts.{Held, Pot, entered, with_pot, passes}
 use Rattle.tables.specs.Accounts.{shed as shed_in}
@@ -37,16 +37,32 @@ marks_more marks n c long there = entry_with 32 false marks long n true there c 
 pub company_more : (on : ℕ → Bool) (marks : List Bool) (n : ℕ) → length marks ≡ 32 → no_company n ≡ false → Companies on marks → Companies (λ c. eqb n c || on c) (with_entry 32 marks n true)
 company_more on marks n long fits k = record { is = λ c. marks_more marks n c long (inside n fits) ∙ ap (λ t. eqb n c || t) (k.is c) }
 
-pub replace_more : (gone takes : ℕ → Bool) (by : ℕ → Option ℕ) (ps : List ℕ) (old new : ℕ) → length ps ≡ 32 → ((i : ℕ) → i < 32 → TakesPart ps i) → (no_company old || no_company new) ≡ false → is_barred ps old new ≡ false → Replacing gone takes by ps → Replacing (λ c. eqb old c || gone c) (λ c. eqb new c || takes c) (λ c. either (when (eqb old c) new) (by c)) (with_entry 32 ps old new)
+-- a guard that holds says nothing, and one that holds wherever the first of two facts does stands before the other alone
+guarded : (t x : Bool) → t ≡ true → (t && x) ≡ x
+guarded true x e = refl
+guarded false x e = cc
+
+spread : (t a x : Bool) → (a ≡ true → t ≡ true) → (t && (a || x)) ≡ (a || (t && x))
+spread t true x holds = guarded t true (holds refl)
+spread t false x holds = refl
+
+pub replace_more : (gone takes : ℕ → Bool) (by : ℕ → Option ℕ) (ps : List ℕ) (old new : ℕ) → length ps ≡ 32 → ((i : ℕ) → i < 32 → TakesPart ps i) → (no_company old || no_company new) ≡ false → (((eqb old new || (is_company old && is_replaced ps old)) || (is_company new && is_replaced ps new)) || is_substitute ps old) ≡ false → Replacing gone takes by ps → Replacing (λ c. eqb old c || gone c) (λ c. eqb new c || takes c) (λ c. either (when (eqb old c) new) (by c)) (with_entry 32 ps old new)
 replace_more gone takes by ps old new long each fits free k =
     let is_old = inside old (or_parts (no_company old) (no_company new) fits).0 in
     let is_new = inside new (or_parts (no_company old) (no_company new) fits).1 in
     let now : with_entry 32 ps old new ≡ set ps (old - 1) new = cond-true _ _ _ is_old in
+    let unbarred : is_barred ps old new ≡ false =
+    ap (λ t. ((eqb old new || t) || is_replaced ps new) || is_substitute ps old) (sym (guarded (is_company old) (is_replaced ps old) is_old))
+    ∙ ap (λ t. ((eqb old new || (is_company old && is_replaced ps old)) || t) || is_substitute ps old) (sym (guarded (is_company new) (is_replaced ps new) is_new))
+    ∙ free in
     subst (Replacing (λ c. eqb old c || gone c) (λ c. eqb new c || takes c) (λ c. either (when (eqb old c) new) (by c))) (sym now)
     (record {
-      replaced = λ c. replaced_after ps long each old new is_old is_new (sym free) c ∙ ap (λ t. eqb old c || t) (k.replaced c);
-      replaces = λ c. substitute_after ps long each old new is_old is_new (sym free) c ∙ ap (λ t. eqb new c || t) (k.replaces c);
-      participant = λ c there. participant_after ps long each old new is_old is_new (sym free) c ∙ ap (cond (eqb old c) new) (k.participant c there) ∙ latest_value (eqb old c) new c (by c);
+      replaced = λ c.
+          ap (λ t. is_company c && t) (replaced_after ps long each old new is_old is_new (sym unbarred) c)
+          ∙ spread (is_company c) (eqb old c) (is_replaced ps c) (λ same. ap is_company (sym (eqb-true old c same)) ∙ is_old)
+          ∙ ap (λ t. eqb old c || t) (k.replaced c);
+      replaces = λ c. substitute_after ps long each old new is_old is_new (sym unbarred) c ∙ ap (λ t. eqb new c || t) (k.replaces c);
+      participant = λ c there. participant_after ps long each old new is_old is_new (sym unbarred) c ∙ ap (cond (eqb old c) new) (k.participant c there) ∙ latest_value (eqb old c) new c (by c);
     })
 
 pub meter_more : (on : ℕ → Bool) (w i : ℕ → Option ℕ) (m : Metering) (n x y : ℕ) → length m.given ≡ 32 → length m.withdrawals ≡ 32 → length m.injections ≡ 32 → no_company n ≡ false → Meters on w i m → Meters (λ c. eqb n c || on c) (λ c. either (when (eqb n c) x) (w c)) (λ c. either (when (eqb n c) y) (i c)) (record { given = with_entry 32 m.given n true; withdrawals = with_entry 32 m.withdrawals n x; injections = with_entry 32 m.injections n y })

@@ -1,5 +1,5 @@
 -- A book holds a history: what each part of it is in terms of the calls.
-use Rattle.std.proofs.Common.{◌≡◌, ℕ, ◌+◌, ◌<◌, ◌≤◌, Bool, true, false, eqb, List, [], ◌∷◌, ◌++◌, length, get_or, Some, None, sum_by, sum, Option, unwrap_or, sym, refl, ap, ◌∙◌, arith}
+use Rattle.std.proofs.Common.{◌≡◌, ℕ, ◌+◌, ◌<◌, ◌≤◌, Bool, true, false, ◌&&◌, eqb, List, [], ◌∷◌, ◌++◌, length, get_or, Some, None, sum_by, sum, Option, unwrap_or, sym, refl, ap, ◌∙◌, arith}
 use Rattle.std.proofs.lemmas.Bool.Decides.{nat_tests}
 use Rattle.prorating.specs.Laws.{Sharing}
 use Rattle.prorating.specs.Counts.{same_places}
@@ -51,7 +51,7 @@ pub record Companies (on : ℕ → Bool) (marks : List Bool) : Type 0 where
   pub is : (c : ℕ) → entry 32 false marks c ≡ on c
 
 pub record Replacing (gone takes : ℕ → Bool) (by : ℕ → Option ℕ) (ps : List ℕ) : Type 0 where
-  pub replaced : (c : ℕ) → is_replaced ps c ≡ gone c
+  pub replaced : (c : ℕ) → (is_company c && is_replaced ps c) ≡ gone c
   pub replaces : (c : ℕ) → is_substitute ps c ≡ takes c
   pub participant : (c : ℕ) → is_company c ≡ true → participant_of ps c ≡ unwrap_or (by c) c
 

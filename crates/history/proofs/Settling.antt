@@ -149,12 +149,16 @@ module _ {R : Type 0} (share : R → Sharing) (keeps : (r : R) → Keeps (share 
   even = all_charges ∙ sym all_credits
 
   -- a replaced company weighs nothing
+  company_gone : (c : ℕ) → replaced h c ≡ true → (is_company c ≡ true) × (is_replaced (participants h) c ≡ true)
+  company_gone c e =
+      and_parts (is_company c) (is_replaced (participants h) c)
+      (ap (λ ps. is_company c && is_replaced ps c) (sym (same_participants share h b fit k)) ∙ k.replacing.replaced c ∙ e)
+
   gone : (c : ℕ) → replaced h c ≡ true → is_replaced (participants h) c ≡ true
-  gone c e = ap (λ ps. is_replaced ps c) (sym (same_participants share h b fit k)) ∙ k.replacing.replaced c ∙ e
+  gone c e = (company_gone c e).1
 
   a_company : (c : ℕ) → replaced h c ≡ true → is_company c ≡ true
-  unfolding is_replaced
-  a_company c e = (and_parts (is_company c) _ (gone c e)).0
+  a_company c e = (company_gone c e).0
 
   weightless : (c : ℕ) → replaced h c ≡ true → (ws : List ℕ) → length ws ≡ 32 → entry 32 0 (moved (participants h) ws) c ≡ 0
   weightless c e ws long = (moves (participants h) each ws long).replaced c (gone c e)
