@@ -1,6 +1,6 @@
 -- What is printed of an outcome.
 use Rattle.std.specs.Prelude.{ℕ, zero, suc, ◌+◌, cond, List, [], ◌∷◌, ◌++◌, map, Some, None, Option, nat_lt, slice_index}
-use Rattle.month.specs.declared.replay.Figures.{Figures}
+use Rattle.month.specs.declared.figures.Figures.{Figures}
 use Rattle.month.specs.declared.refusal.Refusal.{Refusal}
 use Rattle.month.specs.declared.refusal.Refusal.TheVariants.{Stage, Limits, Unregistered, Again, Full, Barred, NoPerformance, Credits, NoWeight, Short}
 use Rattle.replay.specs.declared.report.Net.{Net}

@@ -6,11 +6,15 @@ mod report;
 #[cfg(test)]
 mod tests;
 
-use month::replay::{Outcome, replay};
+use clearing::payments::ENTRIES;
+use history::replay::replay;
+use month::figures::Outcome;
+use prorating::running::Running;
 use report::{Charge, Net, charges, nets, refusal_number};
 use script::Fault;
 use std::alloc::AllocError;
 use std::io::Read;
+use std::process::ExitCode;
 use std::{fmt, io};
 
 // The longest script that is read, in bytes.
@@ -113,7 +117,8 @@ fn run(rt: &HostRuntime) -> Result<(), Failure> {
     let script = script::read(rt.alloc(), &bytes)?;
     let calls = script.calls(rt.alloc())?;
     let mut answers = vec![in rt.alloc(); 0; calls.len()]?;
-    let outcome = replay(&calls, &mut answers);
+    let mut table = vec![in rt.alloc(); 0; ENTRIES]?;
+    let outcome = replay(&calls, &mut answers, &Running, &mut table);
     print_answers(rt, &answers)?;
     match outcome {
         Ok(outcome) => print_outcome(rt, &outcome),
@@ -125,12 +130,12 @@ fn run(rt: &HostRuntime) -> Result<(), Failure> {
     }
 }
 
-fn main(rt: HostRuntime) -> Result<(), Failure> {
+fn main(rt: HostRuntime) -> io::Result<ExitCode> {
     match run(&rt) {
-        Ok(()) => Ok(()),
+        Ok(()) => Ok(ExitCode::SUCCESS),
         Err(failure) => {
             eprintln!(rt; "replay: {failure}")?;
-            Err(failure)
+            Ok(ExitCode::FAILURE)
         }
     }
 }

@@ -2,8 +2,8 @@
 ghost use Rattle.std.specs.Prelude.{◌≡◌, ◌+◌, ◌<◌, ◌++◌, IfOk, OnOk};
 ghost use Rattle.replay.specs.Reports.{net_of, nets_from, if_above, column, charges_from, charges_of, number_of};
 
+use month::figures::Figures;
 use month::refusal::Refusal;
-use month::replay::Figures;
 use std::alloc::{AllocError, Global};
 
 // The figures of a registered company.

@@ -1,6 +1,6 @@
 // The order of what is printed.
 use crate::report::{charges, nets};
-use month::replay::Figures;
+use month::figures::Figures;
 use std::test::Fail;
 
 #[test]
