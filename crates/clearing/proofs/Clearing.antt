@@ -1,21 +1,21 @@
 -- Why payments clear, from the laws of a rule alone.
-use Rattle.std.proofs.Common.{◌≡◌, ℕ, zero, suc, ◌+◌, ◌-◌, ◌*◌, ◌<◌, ◌≤◌, Bool, true, false, cond, ◌&&◌, ltb, leb, ◌⊎◌, List, [], ◌++◌, length, get_or, take, drop, replicate, sum_by, sum, sym, refl, ap, ◌∙◌, subst, ⊎_elim, add-one, arith, length-append}
+use Rattle.std.proofs.Common.{◌≡◌, ℕ, zero, suc, ◌+◌, ◌-◌, ◌*◌, ◌<◌, ◌≤◌, true, false, cond, ◌&&◌, ltb, leb, List, length, get_or, take, drop, sum_by, sum, sym, refl, ap, ◌∙◌, subst, ⊎_elim, add-one, arith}
 use Rattle.std.specs.List.{range_with_len}
 use Rattle.std.proofs.lemmas.List.{get_or_append_left, get_or-append_right, get_or-take, get_or_past, take_all, drop_at}
 use Rattle.std.proofs.lemmas.List.Sums.{sum_by_more, sum_by-take-le, get_or-le-sum_by}
-use Rattle.std.proofs.lemmas.Bool.{cases_lt, cases_Bool, cond-true, lt-ltb, le-leb, and_from}
+use Rattle.std.proofs.lemmas.Bool.{cases_lt, cond-true, lt-ltb, le-leb, and_from}
 use Rattle.std.proofs.lemmas.Bool.Decides.{nat_tests}
 use Rattle.prorating.specs.Laws.{Sharing, Keeps, is_shared}
 use Rattle.prorating.specs.Weights.{limit, padded, Weighed}
 use Rattle.prorating.specs.Conclusions.{shares_amount, shares_within}
-use Rattle.prorating.specs.Counts.{sum_to, places_sum, sum_to_same, sum_to_more}
-use Rattle.prorating.proofs.Puts.{padded_long, padded_sum, padded_at}
+use Rattle.prorating.specs.Counts.{sum_to, places_sum, sum_to_same}
+use Rattle.prorating.proofs.Puts.{padded_sum, padded_at}
 use Rattle.payers.specs.Bases.{is_company}
 use Rattle.payers.specs.Runs.{sum_next}
 use Rattle.tables.specs.Entries.{entry}
 use Rattle.clearing.specs.Clearing.{payment, paid, received, Clears}
-use Rattle.clearing.specs.Payments.{less, still, row, rows, with_payments}
-use Rattle.clearing.proofs.Due.{less_long, less_at, less_sum, still_weighed, row_long, rows_long}
+use Rattle.clearing.specs.Payments.{still, row, rows, with_payments}
+use Rattle.clearing.proofs.Due.{less_at, less_sum, still_weighed, row_long, rows_long}
 
 -- sums over numbers from 1 and over indices from 0
 numbered_sum : (f : ℕ → ℕ) (n : ℕ) → sum_by f (range_with_len 1 n) ≡ sum_to (λ k. f (k + 1)) n

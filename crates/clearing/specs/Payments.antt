@@ -1,6 +1,6 @@
 -- The payment table: debtors in rising number, each debt spread by a rule over what is still due to each creditor.
 -- Lists have the debt, or the due, of company 1 first.
-use Rattle.std.specs.Prelude.{ℕ, zero, suc, ◌-◌, Bool, cond, List, [], ◌++◌, map, length, take, drop, Ok, Err, sum, Result, nat_lt, slice_index}
+use Rattle.std.specs.Prelude.{ℕ, zero, suc, ◌-◌, cond, List, [], ◌++◌, map, length, take, drop, Ok, Err, sum, Result, nat_lt, slice_index}
 use Rattle.std.specs.List.{range_with_len}
 use Rattle.prorating.specs.Laws.{Sharing}
 use Rattle.prorating.specs.Weights.{limit, padded}

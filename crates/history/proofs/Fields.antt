@@ -1,6 +1,6 @@
 -- The tables after a post. They know no history.
-use Rattle.std.proofs.Common.{◌≡◌, ℕ, ◌+◌, ◌-◌, ◌<◌, ◌≤◌, Bool, true, false, cond, not, ◌&&◌, ◌||◌, eqb, ltb, leb, ◌⊎◌, List, [], ◌∷◌, ◌++◌, length, set, Some, None, sum_by, Option, unwrap_or, sym, refl, ap, ◌∙◌, subst, inl, inr, arith}
-use Rattle.std.proofs.lemmas.Bool.{eqb-true, cond-true, and_from, not_from_false, le-leb, ltb-false, or_parts}
+use Rattle.std.proofs.Common.{◌≡◌, ℕ, ◌+◌, ◌-◌, ◌<◌, Bool, true, false, cond, not, ◌&&◌, ◌||◌, eqb, ltb, leb, ◌⊎◌, List, [], ◌∷◌, ◌++◌, length, set, Some, None, sum_by, Option, unwrap_or, sym, refl, ap, ◌∙◌, subst, inl, inr, arith}
+use Rattle.std.proofs.lemmas.Bool.{eqb-true, cond-true, and_from, not_from_false, or_parts}
 use Rattle.std.proofs.lemmas.Bool.Decides.{nat_tests}
 use Rattle.std.proofs.lemmas.List.Sums.{sum_by-append, sum_by-cons}
 use Rattle.prorating.specs.Weights.{limit}
@@ -12,7 +12,6 @@ use Rattle.tables.specs.Accounts.{shed as shed_in}
 use Rattle.tables.specs.Entries.{is_numbered, entry, with_entry}
 use Rattle.tables.specs.Points.{Points, no_point, point, supplied, shed_at, with_supplier, with_shedding}
 use Rattle.tables.proofs.Entries.{entry_with}
-use Rattle.worth.specs.Families.{numbered}
 use Rattle.month.specs.Book.{Metering}
 use Rattle.month.specs.Table.{outside, no_company}
 use Rattle.history.specs.History.{either, plus, when, only, is}

@@ -1,5 +1,5 @@
 -- A book holds a history: what each part of it is in terms of the calls.
-use Rattle.std.proofs.Common.{◌≡◌, ℕ, ◌+◌, ◌<◌, ◌≤◌, Bool, true, false, ◌&&◌, eqb, List, [], ◌∷◌, ◌++◌, length, get_or, Some, None, sum_by, sum, Option, unwrap_or, sym, refl, ap, ◌∙◌, arith}
+use Rattle.std.proofs.Common.{◌≡◌, ℕ, ◌+◌, ◌<◌, ◌≤◌, Bool, true, false, ◌&&◌, eqb, List, [], ◌∷◌, ◌++◌, length, Some, None, sum_by, sum, Option, unwrap_or, sym, ◌∙◌, arith}
 use Rattle.std.proofs.lemmas.Bool.Decides.{nat_tests}
 use Rattle.prorating.specs.Laws.{Sharing}
 use Rattle.prorating.specs.Counts.{same_places}
@@ -11,7 +11,7 @@ use Rattle.payers.specs.CompaniesLemmas.{weight_next, by_company_long, by_compan
 use Rattle.tables.specs.declared.units.Place.{Place}
 use Rattle.tables.specs.declared.units.UnitRow.{UnitRow}
 use Rattle.tables.specs.Accounts.{Held, Pot, pot_at}
-use Rattle.tables.specs.Entries.{entry, is_numbered}
+use Rattle.tables.specs.Entries.{entry}
 use Rattle.tables.specs.Points.{Points}
 use Rattle.tables.specs.Points.{point as point_in}
 use Rattle.tables.specs.Units.{find, are_owned}
@@ -22,7 +22,7 @@ use Rattle.month.specs.Answers.{is_charged}
 use Rattle.month.specs.Book.{Book, Metering}
 use Rattle.month.specs.Meant.{Meant}
 use Rattle.month.specs.Pots.{some_strands}
-use Rattle.month.specs.Seen.{Seen, strands}
+use Rattle.month.specs.Seen.{strands}
 use Rattle.month.specs.Steps.{shown, all_pots}
 use Rattle.month.specs.Steps.{service_pots as service_pots_in}
 use Rattle.history.specs.Kinds.{on_replace, on_meter, on_settle}

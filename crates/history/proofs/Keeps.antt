@@ -1,19 +1,17 @@
 -- Each call keeps it: the book answers what the history does, and then holds what the history then is.
-use Rattle.std.proofs.Common.{◌≡◌, ℕ, zero, suc, ◌+◌, ◌<◌, ◌≤◌, Bool, true, false, cond, not, ◌&&◌, ◌||◌, eqb, ltb, leb, ◌⊎◌, List, [], ◌∷◌, ◌++◌, length, is_some, Some, None, Ok, Err, Option, unwrap_or, sym, refl, ap, ◌∙◌, subst, inl, inr, arith}
+use Rattle.std.proofs.Common.{◌≡◌, ℕ, zero, suc, ◌+◌, ◌<◌, Bool, true, false, cond, not, ◌&&◌, ◌||◌, eqb, ltb, leb, ◌⊎◌, List, [], ◌∷◌, ◌++◌, length, is_some, Some, None, Ok, Err, Option, unwrap_or, sym, refl, ap, ◌∙◌, subst, inl, inr, arith}
 use Rattle.std.proofs.lemmas.Bool.{eqb-true, or_parts, and_parts, not-false, leb-false}
 use Rattle.std.proofs.lemmas.Bool.Decides.{nat_tests}
 use Rattle.prorating.specs.Laws.{Sharing}
 use Rattle.prorating.specs.Weights.{limit}
 use Rattle.payers.specs.declared.readings.Reading.{Reading}
-use Rattle.payers.specs.Bases.{is_company}
-use Rattle.payers.specs.Zones.{are_readings}
 use Rattle.tables.specs.declared.units.Place.{Place}
 use Rattle.tables.specs.declared.units.UnitRow.{UnitRow}
 use Rattle.tables.specs.Accounts.{Pot, entered, with_more, with_pot}
 use Rattle.tables.specs.Accounts.{shed as shed_in}
 use Rattle.tables.specs.Entries.{is_numbered}
 use Rattle.tables.specs.Points.{point as point_in}
-use Rattle.tables.specs.Units.{find, change, with_performance, with_installation, with_line}
+use Rattle.tables.specs.Units.{find}
 use Rattle.tables.specs.Units.{place as IsPlaceIn}
 use Rattle.tables.specs.Rows.{found_company}
 use Rattle.worth.specs.declared.family.Family.{Family}
@@ -28,15 +26,15 @@ use Rattle.month.specs.Answers.{is_charged}
 use Rattle.month.specs.Book.{Book}
 use Rattle.month.specs.Meant.{Meant, post, stage, Posted, company, replace, unit, performance, line, installation, meter, point, shed}
 use Rattle.month.specs.Pots.{some_strands, charged}
-use Rattle.month.specs.Seen.{Phase, blank, begun, settled, final, Seen, strands}
+use Rattle.month.specs.Seen.{Phase, blank, begun, settled, final, strands}
 use Rattle.month.specs.Steps.{service_pots as service_pots_in}
-use Rattle.month.specs.Steps.{shown, owner_of, answer, post_done, stage_done, done, after, on_ok, with_phase, all_pots}
-use Rattle.month.specs.Table.{Answer, Row, is_begun, is_settled, first, rows, post_rows, outside, no_unit, no_company, no_zone, no_family, disallowed, some_reading, line_worth, shed_worth, shed_weights, past_credits}
-use Rattle.history.specs.History.{plus, when, only, is, owner, latest, phase, terms, place, units, performed, installed, given, supplier, earned, credits, line_pot, installation_pot, shed_pots, participants, pots, charges, seen}
+use Rattle.month.specs.Steps.{shown, owner_of, answer, post_done, done, after, on_ok, with_phase, all_pots}
+use Rattle.month.specs.Table.{Answer, Row, is_begun, is_settled, first, rows, post_rows, outside, no_unit, no_company, no_zone, no_family, disallowed, line_worth, shed_worth, shed_weights, past_credits}
+use Rattle.history.specs.History.{plus, when, only, is, owner, latest, phase, terms, place, earned, credits, line_pot, installation_pot, shed_pots, participants, charges, seen}
 use Rattle.history.specs.Law.{Clear, then, verdict}
 use Rattle.history.proofs.Fields.{company_more, replace_more, meter_more, point_more, shed_more, installed_more, lined_more, shedded_more}
 use Rattle.history.specs.Kinds.{on_settle}
-use Rattle.history.proofs.Holds.{Sound, Units, Accounted, WeighedPots, Holds, sees, same_participants, same_pots}
+use Rattle.history.proofs.Holds.{Sound, Accounted, WeighedPots, Holds, sees, same_participants, same_pots}
 use Rattle.history.proofs.UnitFields.{unit_more, performed_more, given_more}
 use Rattle.history.proofs.UnitFields.{installed_more as unit_installed_more}
 

@@ -1,5 +1,5 @@
 -- Of every list of calls there is one run.
-use Rattle.std.proofs.Common.{◌≡◌, ℕ, Bool, true, false, cond, ◌⊎◌, List, [], ◌∷◌, Ok, Err, sym, refl, ap, ◌∙◌, subst, inl, inr, arith}
+use Rattle.std.proofs.Common.{◌≡◌, ℕ, Bool, true, false, cond, List, [], ◌∷◌, Ok, Err, sym, refl, ap, ◌∙◌, subst, inl, inr, arith}
 use Rattle.month.specs.declared.refusal.Refusal.{Refusal}
 use Rattle.month.specs.Meant.{Meant}
 use Rattle.month.specs.Refusals.{number}

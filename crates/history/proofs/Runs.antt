@@ -12,7 +12,7 @@ use Rattle.month.specs.Book.{Book, blank_book}
 use Rattle.month.specs.Meant.{Meant, meant}
 use Rattle.month.specs.Steps.{answer, after}
 use Rattle.month.specs.Table.{Answer}
-use Rattle.history.specs.History.{phase, debts, dues}
+use Rattle.history.specs.History.{debts, dues}
 use Rattle.history.specs.Law.{answer_number, verdict, then, run, answers, too_short, Replayed}
 use Rattle.history.proofs.Blank.{blank_holds}
 use Rattle.history.proofs.Holds.{Sound, Holds}

@@ -1,5 +1,5 @@
 -- A settled month clears, by the calls alone.
-use Rattle.std.proofs.Common.{◌≡◌, ℕ, zero, suc, ◌+◌, ◌-◌, ◌<◌, ◌≤◌, Bool, true, false, not, ◌&&◌, ◌||◌, eqb, ltb, List, [], ◌∷◌, ◌++◌, map, length, replicate, ℤ, pos, ◌+ℤ◌, ◌-ℤ◌, Some, None, fold, sum_by, sum, Option, sym, refl, ap, ◌∙◌, subst, add-one, arith}
+use Rattle.std.proofs.Common.{◌≡◌, ℕ, zero, suc, ◌+◌, ◌-◌, ◌<◌, ◌≤◌, Bool, true, false, ◌&&◌, ◌||◌, List, [], ◌∷◌, map, length, ℤ, pos, ◌+ℤ◌, ◌-ℤ◌, Some, None, fold, sum_by, sum, Option, sym, refl, ap, ◌∙◌, subst, arith}
 use Rattle.std.specs.List.{range_with_len}
 use Rattle.std.proofs.lemmas.List.FromFn.{map-range_with_len_more}
 use Rattle.std.proofs.lemmas.List.{length-replicate}
@@ -10,7 +10,7 @@ use Rattle.prorating.specs.Laws.{Sharing, Keeps}
 use Rattle.prorating.specs.Weights.{limit}
 use Rattle.payers.specs.Bases.{is_company, Based}
 use Rattle.payers.specs.Companies.{by_company}
-use Rattle.payers.specs.Replacements.{TakesPart, is_replaced, weight_moved, moved}
+use Rattle.payers.specs.Replacements.{TakesPart, is_replaced, moved}
 use Rattle.payers.specs.CompaniesLemmas.{by_company_long, by_company_sum}
 use Rattle.payers.specs.Moved.{moves, moved_weight}
 use Rattle.payers.specs.Runs.{sum_next}
@@ -18,12 +18,12 @@ use Rattle.tables.specs.Accounts.{Pot, pot_at}
 use Rattle.tables.specs.Entries.{entry}
 use Rattle.clearing.specs.Clearing.{Clears}
 use Rattle.clearing.specs.Payments.{with_payments}
-use Rattle.clearing.proofs.Clearing.{Balanced, clears}
+use Rattle.clearing.proofs.Clearing.{clears}
 use Rattle.month.specs.Answers.{is_charged}
 use Rattle.month.specs.Book.{Book}
 use Rattle.month.specs.Figures.{charge_at, charge_over}
 use Rattle.month.specs.Meant.{Meant}
-use Rattle.month.specs.Pots.{some_strands, charged}
+use Rattle.month.specs.Pots.{charged}
 use Rattle.month.specs.Seen.{strands}
 use Rattle.month.specs.Steps.{service_pot, all_pots}
 use Rattle.month.proofs.Paying.{dues_light}

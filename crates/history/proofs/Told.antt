@@ -1,5 +1,5 @@
 -- What a book that holds a history tells is what the history tells.
-use Rattle.std.proofs.Common.{◌≡◌, ℕ, ◌+◌, ◌-◌, ◌<◌, Bool, true, false, cond, not, ltb, List, map, length, get_or, Some, None, Ok, Err, Option, Result, sym, refl, ap, ◌∙◌, arith}
+use Rattle.std.proofs.Common.{◌≡◌, ℕ, ◌+◌, ◌-◌, ◌<◌, Bool, true, false, cond, not, ltb, List, map, length, None, Ok, Err, Option, sym, refl, ap, ◌∙◌, arith}
 use Rattle.std.proofs.lemmas.List.FromFn.{fill_by_all, length-map-range_with_len, get_or-map-range_with_len}
 use Rattle.std.proofs.lemmas.Bool.{cond-true, cond-false}
 use Rattle.std.proofs.lemmas.Bool.Decides.{nat_tests}
@@ -10,15 +10,14 @@ use Rattle.payers.specs.Replacements.{weight_moved}
 use Rattle.tables.specs.Entries.{entry}
 use Rattle.clearing.specs.Payments.{with_payments}
 use Rattle.month.specs.declared.figures.Figures.{Figures}
-use Rattle.month.specs.declared.figures.Outcome.{Outcome}
 use Rattle.month.specs.declared.refusal.Refusal.{Refusal}
-use Rattle.month.specs.Answers.{is_charged, answered, figures_answer, answer_if_any, outcome_figures, outcome, outcome_answer, debts_in, dues_in, payments_after}
+use Rattle.month.specs.Answers.{is_charged, answer_if_any, outcome_figures, outcome, outcome_answer, debts_in, dues_in, payments_after}
 use Rattle.month.specs.Book.{Book}
 use Rattle.month.specs.Figures.{figures, charge_over}
 use Rattle.month.specs.Meant.{Meant}
 use Rattle.month.specs.Steps.{on_ok}
 use Rattle.month.specs.Table.{Answer, no_company}
-use Rattle.history.specs.History.{when, phase, registered, earned, participants, credit, charges, debts, dues}
+use Rattle.history.specs.History.{when, phase, registered, earned, participants, credit, debts, dues}
 use Rattle.history.specs.Law.{figures_told, told}
 use Rattle.history.proofs.Holds.{Sound, Holds, by_entries, same_participants}
 

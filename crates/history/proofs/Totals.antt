@@ -1,5 +1,5 @@
 -- The charges of all pots: each pot in full, and all charges together what is credited.
-use Rattle.std.proofs.Common.{◌≡◌, ℕ, zero, suc, ◌+◌, ◌-◌, ◌<◌, ◌≤◌, Bool, true, false, cond, ◌&&◌, eqb, ltb, leb, List, [], ◌∷◌, map, length, get_or, replicate, Some, None, sum_by, sum, Option, sym, refl, ap, ◌∙◌, subst, ⊎_elim, arith}
+use Rattle.std.proofs.Common.{◌≡◌, ℕ, zero, suc, ◌+◌, ◌-◌, ◌<◌, ◌≤◌, Bool, true, false, cond, eqb, ltb, List, [], ◌∷◌, length, get_or, replicate, Some, None, sum_by, sum, Option, sym, refl, ap, ◌∙◌, subst, ⊎_elim, arith}
 use Rattle.std.specs.List.{range_with_len}
 use Rattle.std.proofs.lemmas.List.FromFn.{get_or-map-range_with_len}
 use Rattle.std.proofs.lemmas.List.Sums.{sum_by-cons}
@@ -7,15 +7,13 @@ use Rattle.std.proofs.lemmas.Bool.{cases_lt, cond-true, cond-false, le-leb, lt-l
 use Rattle.std.proofs.lemmas.Bool.Decides.{nat_tests}
 use Rattle.prorating.specs.Laws.{Sharing, Keeps, Near, is_shared}
 use Rattle.prorating.specs.Weights.{limit}
-use Rattle.prorating.specs.Counts.{sum_to}
 use Rattle.payers.specs.Bases.{is_company, Based}
 use Rattle.payers.specs.Charges.{charges_of, Charged}
-use Rattle.payers.specs.Companies.{by_company}
-use Rattle.payers.specs.Replacements.{TakesPart, is_replaced, weight_moved, moved}
+use Rattle.payers.specs.Replacements.{TakesPart, moved}
 use Rattle.payers.proofs.Charged.{charges_charged}
-use Rattle.payers.specs.CompaniesLemmas.{by_company_sum, by_company_weight, weights_sum}
-use Rattle.payers.specs.Moved.{moves, moved_based, moved_weight}
-use Rattle.payers.specs.Runs.{sum_same, sum_zero, sum_next, sum_exchange}
+use Rattle.payers.specs.CompaniesLemmas.{weights_sum}
+use Rattle.payers.specs.Moved.{moves, moved_based}
+use Rattle.payers.specs.Runs.{sum_same, sum_zero, sum_exchange}
 use Rattle.tables.specs.Accounts.{Pot, pot_at}
 use Rattle.tables.specs.Entries.{is_numbered, entry}
 use Rattle.tables.proofs.Entries.{entry_all}

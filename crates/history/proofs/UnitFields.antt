@@ -1,12 +1,12 @@
 -- The units after a post. They know no history.
-use Rattle.std.proofs.Common.{◌≡◌, ℕ, suc, ◌+◌, ◌-◌, ◌*◌, ◌<◌, ◌≤◌, Bool, true, false, cond, not, ◌&&◌, ◌||◌, eqb, leb, List, [], ◌∷◌, ◌++◌, length, get_or, set, replicate, is_some, Some, None, Option, sym, refl, ap, ◌∙◌, subst, arith, length-append}
+use Rattle.std.proofs.Common.{◌≡◌, ℕ, suc, ◌+◌, ◌<◌, ◌≤◌, Bool, true, false, cond, ◌&&◌, ◌||◌, eqb, leb, List, [], ◌∷◌, ◌++◌, length, get_or, set, replicate, is_some, Some, None, Option, sym, refl, ap, ◌∙◌, subst, arith, length-append}
 use Rattle.std.proofs.lemmas.List.{get_or-set_same, get_or-set_other, length-set, length-replicate}
-use Rattle.std.proofs.lemmas.Bool.{eqb-true, eqb-false, eq-eqb, ne_eqb, cond-true, cond-false, and_from, not_from_false, lt-leb, le-leb, leb-false}
+use Rattle.std.proofs.lemmas.Bool.{eqb-true, eqb-false, cond-true, cond-false, and_from, not_from_false, lt-leb}
 use Rattle.std.proofs.lemmas.Bool.Decides.{nat_tests}
 use Rattle.std.specs.Option.{option_map}
 use Rattle.tables.specs.declared.units.Place.{Place}
 use Rattle.tables.specs.declared.units.UnitRow.{UnitRow}
-use Rattle.tables.specs.Entries.{is_numbered, entry, with_entry}
+use Rattle.tables.specs.Entries.{is_numbered, entry}
 use Rattle.tables.specs.Units.{fresh, find, change, place, performance, installed, slot, given, is_addable, added, with_performance, with_installation, with_line}
 use Rattle.tables.proofs.Added.{or_else, find_added, is_none}
 use Rattle.tables.proofs.Entries.{getD_all, entry_all, entry_with, with_entry_long}

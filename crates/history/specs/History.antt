@@ -1,5 +1,5 @@
 -- The month in terms of the calls alone. A history is the list of the calls that were admitted, the newest first.
-use Rattle.std.specs.Prelude.{ℕ, ◌+◌, ◌-◌, Bool, true, false, cond, ◌&&◌, ◌||◌, List, [], ◌∷◌, ◌++◌, length, replicate, ℤ, pos, ◌-ℤ◌, Some, None, Option, ◌==◌, nat_eq}
+use Rattle.std.specs.Prelude.{ℕ, ◌+◌, ◌-◌, Bool, false, cond, ◌&&◌, ◌||◌, List, [], ◌∷◌, ◌++◌, length, replicate, ℤ, pos, ◌-ℤ◌, Some, None, Option, ◌==◌, nat_eq}
 use Rattle.std.specs.Option.{unwrap_or}
 use Rattle.prorating.specs.Laws.{Sharing}
 use Rattle.payers.specs.Companies.{by_company}

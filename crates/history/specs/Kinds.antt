@@ -5,7 +5,7 @@ use Rattle.worth.specs.declared.performance.Performance.{Performance}
 use Rattle.payers.specs.declared.readings.Reading.{Reading}
 use Rattle.month.specs.declared.calls.StageCall.{StageCall}
 use Rattle.month.specs.declared.calls.Terms.{Terms}
-use Rattle.month.specs.Meant.{Meant, post, stage, Posted, company, replace, unit, performance, line, installation, meter, point, shed}
+use Rattle.month.specs.Meant.{Meant, post, stage, company, replace, unit, performance, line, installation, meter, point, shed}
 
 module _ {R X : Type 0} (d : X) where
   abbrev pub on_company : (ℕ → X) → Meant R → X

@@ -1,5 +1,5 @@
 -- The last line of a script may name the rule of the payments; it is no call.
-use Rattle.std.specs.Prelude.{ℕ, ◌-◌, Bool, true, false, cond, ◌&&◌, ◌||◌, List, length, take, drop, codes, ◌==◌, nat_le, nat_lt, slice_index}
+use Rattle.std.specs.Prelude.{ℕ, ◌-◌, Bool, cond, ◌&&◌, ◌||◌, List, length, take, drop, codes, ◌==◌, nat_le, nat_lt, slice_index}
 use Rattle.std.specs.Str.{bytes_eq}
 use Rattle.prorating.specs.declared.built_in.BuiltIn.{BuiltIn}
 use Rattle.prorating.specs.declared.built_in.BuiltIn.TheVariants.{Running, Largest}

@@ -1,4 +1,4 @@
-use Rattle.std.proofs.Common.{◌≡◌, ℕ, ◌-◌, ◌++◌, length, replicate, sym, ap, ◌∙◌, arith}
+use Rattle.std.proofs.Common.{◌≡◌, ◌-◌, ◌++◌, length, replicate, sym, ap, ◌∙◌, arith}
 use Rattle.prorating.specs.Weights.{padded}
 use Rattle.clearing.proofs.payments.places.Goals as goal
 

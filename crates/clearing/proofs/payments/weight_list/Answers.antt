@@ -1,4 +1,4 @@
-use Rattle.std.proofs.Common.{◌≡◌, ap, ◌∙◌, arith}
+use Rattle.std.proofs.Common.{◌∙◌, arith}
 use Rattle.clearing.proofs.Due.{padded_full}
 use Rattle.clearing.proofs.payments.weight_list.Goals as goal
 

@@ -1,4 +1,4 @@
-use Rattle.std.proofs.Common.{◌<◌, ◌≤◌, Err, arith}
+use Rattle.std.proofs.Common.{Err, arith}
 use Rattle.prorating.specs.Laws.{Keeps}
 use Rattle.payers.specs.Figures.{column_based}
 use Rattle.tables.proofs.Pots.{pots_based, pots_long}

@@ -1,5 +1,4 @@
-use Rattle.std.proofs.Common.{◌≡◌, ℕ, ◌≤◌, ap, ◌∙◌, arith}
-use Rattle.prorating.specs.Weights.{limit}
+use Rattle.std.proofs.Common.{ap, ◌∙◌}
 use Rattle.prorating.specs.Laws.{Sharing}
 use Rattle.payers.specs.Charges.{charges_of}
 use Rattle.payers.specs.Replacements.{moved}

@@ -1,5 +1,4 @@
 use Rattle.std.proofs.Common.{sym, ap, ◌∙◌}
-use Rattle.month.specs.declared.calls.Post.{Post}
 use Rattle.month.specs.Book.{book}
 use Rattle.month.specs.Meant.{meant_post}
 use Rattle.month.specs.Steps.{post_answer, post_after}

@@ -1,4 +1,4 @@
-use Rattle.std.proofs.Common.{◌≡◌, ℕ, ◌≤◌, sym, ap, ◌∙◌, arith}
+use Rattle.std.proofs.Common.{ℕ, ◌≤◌, sym, ap, ◌∙◌, arith}
 use Rattle.prorating.specs.Laws.{Sharing}
 use Rattle.tables.proofs.Entries.{getD_all}
 use Rattle.month.specs.Pots.{charges_by}

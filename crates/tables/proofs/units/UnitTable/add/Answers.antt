@@ -1,6 +1,6 @@
-use Rattle.std.proofs.Common.{◌≡◌, ◌<◌, sym, ap, ◌∙◌, arith}
+use Rattle.std.proofs.Common.{sym, ◌∙◌, arith}
 use Rattle.std.proofs.lemmas.Bool.{cond-true}
-use Rattle.tables.proofs.Added.{Addable, addable, added_long, added_owned, added_once, added_listed}
+use Rattle.tables.proofs.Added.{addable, added_long, added_owned, added_once, added_listed}
 use Rattle.tables.proofs.units.UnitTable.add.Goals as goal
 
 pub bounds-self-self : goal.bounds-self-self
