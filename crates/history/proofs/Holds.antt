@@ -15,7 +15,7 @@ use Rattle.tables.specs.Entries.{entry}
 use Rattle.tables.specs.Points.{Points}
 use Rattle.tables.specs.Points.{point as point_in}
 use Rattle.tables.specs.Units.{find, are_owned}
-use Rattle.tables.specs.Units.{place as IsPlaceIn, performance as performance_in, installed as installed_in, given as given_in}
+use Rattle.tables.specs.Units.{place as place_in, performance as performance_in, installed as installed_in, given as given_in}
 use Rattle.worth.specs.declared.line.Line.{Line}
 use Rattle.worth.specs.declared.performance.Performance.{Performance}
 use Rattle.month.specs.Answers.{is_charged}
@@ -62,7 +62,7 @@ pub record Wide (r : UnitRow) : Type 0 where
   pub given : length r.given ≡ 5960
 
 pub record Units (at : ℕ → Option Place) (many : ℕ) (perf : ℕ → ℕ → Option Performance) (inst : ℕ → ℕ → Bool) (gave : ℕ → ℕ → Line → Bool) (us : List UnitRow) : Type 0 where
-  pub place : (u : ℕ) → IsPlaceIn (find us u) ≡ at u
+  pub place : (u : ℕ) → place_in (find us u) ≡ at u
   pub count : length us ≡ many
   pub performed : (u f : ℕ) → performance_in f (find us u) ≡ perf u f
   pub installed : (u f : ℕ) → installed_in f (find us u) ≡ inst u f

@@ -12,7 +12,7 @@ use Rattle.tables.specs.Accounts.{shed as shed_in}
 use Rattle.tables.specs.Entries.{is_numbered}
 use Rattle.tables.specs.Points.{point as point_in}
 use Rattle.tables.specs.Units.{find}
-use Rattle.tables.specs.Units.{place as IsPlaceIn}
+use Rattle.tables.specs.Units.{place as place_in}
 use Rattle.tables.specs.Rows.{found_company}
 use Rattle.worth.specs.declared.family.Family.{Family}
 use Rattle.worth.specs.declared.line.Line.{Line}
@@ -97,24 +97,24 @@ module _ {R : Type 0} (share : R → Sharing) (h : List (Meant R)) (b : Book) (f
   same = sees share h b fit k
 
   -- a unit that is registered
-  known : (u : ℕ) → not (is_some (IsPlaceIn (find b.units u))) ≡ false → (r : UnitRow) × (find b.units u ≡ Some r)
+  known : (u : ℕ) → not (is_some (place_in (find b.units u))) ≡ false → (r : UnitRow) × (find b.units u ≡ Some r)
   known u e = go (find b.units u) refl e
     where
-      go : (o : Option UnitRow) → find b.units u ≡ o → not (is_some (IsPlaceIn o)) ≡ false → (r : UnitRow) × (find b.units u ≡ Some r)
+      go : (o : Option UnitRow) → find b.units u ≡ o → not (is_some (place_in o)) ≡ false → (r : UnitRow) × (find b.units u ≡ Some r)
       go None p q = let z : ◌≡◌ {A = ℕ} 0 1 = cc in absurd (omega arith)
       go (Some r) p q = (r, p)
 
   -- what is earned for its owner: the place of a row is that of the history
-  of_row : (u : ℕ) (r : UnitRow) → find b.units u ≡ Some r → (P : Option Place → Option Place → Type 0) → P (IsPlaceIn (Some r)) (IsPlaceIn (Some r)) → P (place h u) (IsPlaceIn (find b.units u))
+  of_row : (u : ℕ) (r : UnitRow) → find b.units u ≡ Some r → (P : Option Place → Option Place → Type 0) → P (place_in (Some r)) (place_in (Some r)) → P (place h u) (place_in (find b.units u))
   of_row u r there P base =
-      let here : IsPlaceIn (Some r) ≡ IsPlaceIn (find b.units u) = ap IsPlaceIn (sym there) in
-      subst (λ o. P o (IsPlaceIn (find b.units u))) (here ∙ k.units.place u) (subst (P (IsPlaceIn (Some r))) here base)
+      let here : place_in (Some r) ≡ place_in (find b.units u) = ap place_in (sym there) in
+      subst (λ o. P o (place_in (find b.units u))) (here ∙ k.units.place u) (subst (P (place_in (Some r))) here base)
 
   owned_line : (u t f : ℕ) (l : Line) (r : UnitRow) → find b.units u ≡ Some r → (f ≡ 1) ⊎ (f ≡ 2) → past_credits (shown b) (line_worth (shown b) u f l) ≡ false → Accounted (earned (post (line u t f l) ∷ h)) (line_pot (post (line u t f l) ∷ h)) (installation_pot h) (credits (post (line u t f l) ∷ h)) (shed_pots h) (entered b.accounts (owner_of ((shown b).place u)) f (line_worth (shown b) u f l))
   owned_line u t f l r there which light =
       let x = line_worth (shown b) u f l in
       subst
-      (λ y. Accounted (λ c. plus (earned h c) (only (is (owner (place h u)) c) (Some y))) (λ g. plus (line_pot h g) (when (eqb f g) y)) (installation_pot h) (credits h + y) (shed_pots h) (entered b.accounts (owner_of (IsPlaceIn (find b.units u))) f x))
+      (λ y. Accounted (λ c. plus (earned h c) (only (is (owner (place h u)) c) (Some y))) (λ g. plus (line_pot h g) (when (eqb f g) y)) (installation_pot h) (credits h + y) (shed_pots h) (entered b.accounts (owner_of (place_in (find b.units u))) f x))
       (ap (λ s. line_worth s u f l) same)
       (of_row u r there
       (λ o q. Accounted (λ c. plus (earned h c) (only (is (owner o) c) (Some x))) (λ g. plus (line_pot h g) (when (eqb f g) x)) (installation_pot h) (credits h + x) (shed_pots h) (entered b.accounts (owner_of q) f x))

@@ -12,7 +12,7 @@ use Rattle.tables.specs.Entries.{entry, with_entry}
 use Rattle.tables.specs.Points.{Points, with_supplier, with_shedding}
 use Rattle.tables.specs.Points.{point as point_in}
 use Rattle.tables.specs.Units.{find, change, added, with_performance, with_installation, with_line}
-use Rattle.tables.specs.Units.{place as IsPlaceIn, performance as performance_in, installed as installed_in, given as given_in}
+use Rattle.tables.specs.Units.{place as place_in, performance as performance_in, installed as installed_in, given as given_in}
 use Rattle.worth.specs.Installations.{worth as worth_of_installation}
 use Rattle.month.specs.declared.calls.StageCall.{StageCall}
 use Rattle.month.specs.declared.calls.Terms.{Terms}
@@ -46,7 +46,7 @@ shown b =
       registered = λ c. entry 32 false b.registered c;
       replaced = λ c. is_company c && is_replaced b.participants c;
       replaces = λ c. is_substitute b.participants c;
-      place = λ u. IsPlaceIn (find b.units u);
+      place = λ u. place_in (find b.units u);
       units = length b.units;
       performed = λ u f. performance_in f (find b.units u);
       installed = λ u f. installed_in f (find b.units u);

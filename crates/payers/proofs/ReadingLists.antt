@@ -1,6 +1,6 @@
 -- The test of a list of readings, one reading after another, and what it bounds.
 use Rattle.std.proofs.Common.{◌≡◌, ℕ, ◌+◌, ◌<◌, ◌≤◌, true, false, ◌&&◌, leb, List, [], ◌∷◌, length, get_or, drop, sum_by, sym, ap, ◌∙◌, arith}
-use Rattle.std.specs.List.{list_all, AllByRecursion as All}
+use Rattle.std.specs.List.{list_all, AllByRecursion}
 use Rattle.std.proofs.lemmas.List.{drop_all, drop_more}
 use Rattle.std.proofs.ByRecursion.{sum_by_le}
 use Rattle.std.proofs.lemmas.Bool.{and_parts, leb-true}
@@ -26,7 +26,7 @@ pub rest_none : (rs : List Reading) (i : ℕ) → length rs ≤ i → list_all i
 rest_none rs i past = ap (list_all is_within_limit) (drop_all i rs past)
 
 -- 48 readings of 2,000,000 kWh
-each_small : (rs : List Reading) → list_all is_within_limit rs ≡ true → All (λ r. r.kwh ≤ 2_000_000) rs
+each_small : (rs : List Reading) → list_all is_within_limit rs ≡ true → AllByRecursion (λ r. r.kwh ≤ 2_000_000) rs
 each_small [] pass = tt
 each_small (r ∷ rs) pass =
     let both = and_parts (is_within_limit r) (list_all is_within_limit rs) pass in

@@ -3,7 +3,6 @@ ghost use Rattle.std.specs.Prelude.{◌≡◌, ℕ, ◌+◌, ◌-◌, ◌^◌, �
 ghost use Rattle.prorating.specs.Weights.{limit};
 ghost use Rattle.payers.specs.Bases.{is_company};
 ghost use Rattle.payers.specs.Zones.{Owner, Summed, are_readings};
-ghost use Rattle.std.proofs.Common.{rules, arith};
 
 use crate::base::{COMPANIES, PayerBase};
 use crate::company::entry_of;
@@ -86,7 +85,7 @@ impl ZoneHour {
 impl PayerBase for ZoneHour {
     ghost weights = { λ s. s.kwh };
 
-    ghost based = { first_of (Prim.search rules, Prim.grind (arith, Self.row.coded.inj)) };
+    ghost based = { λ s. record { long = s.long; light = s.light } };
 
     fn weight(&self, company: u64) -> u64 {
         entry_of(&self.kwh, company)

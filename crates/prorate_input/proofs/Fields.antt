@@ -2,7 +2,7 @@
 use Rattle.std.proofs.Common.{◌≡◌, ℕ, zero, suc, ◌+◌, ◌^◌, ◌<◌, ◌≤◌, Bool, true, false, cond, ◌&&◌, ltb, List, [], ◌∷◌, map, length, get_or, Some, None, Ok, Err, decimal, Option, Result, sym, refl, ap, ◌∙◌, subst, arith}
 use Rattle.std.specs.Option.{ok_or}
 use Rattle.std.specs.Str.Iter.{LacksByte}
-use Rattle.std.specs.List.{join_with_byte, AllByRecursion as All}
+use Rattle.std.specs.List.{join_with_byte, AllByRecursion}
 use Rattle.std.specs.Str.Parse.{digits_value}
 use Rattle.std.specs.Int.{IsInRange}
 use Rattle.std.specs.Str.{all_ascii_digits}
@@ -59,7 +59,7 @@ Small w = w < 10 ^ 11
 
 -- the fields are those of ws, of which the first is the k-th weight
 abbrev pub Weights : ℕ → List (List ℕ) → List ℕ → Type 0
-Weights k fs ws = (fs ≡ map decimal ws) × All Small ws × (k + length ws ≤ 49)
+Weights k fs ws = (fs ≡ map decimal ws) × AllByRecursion Small ws × (k + length ws ≤ 49)
 
 -- the weights after the first
 abbrev Rest : ℕ → List (List ℕ) → Type 0
@@ -86,7 +86,7 @@ pub weights_only : (k : ℕ) (fs : List (List ℕ)) (ws : List ℕ) → k ≤ 49
 weights_only k [] ws le h = let is : [] ≡ ws = cc in subst (Weights k []) is (refl, tt, omega arith)
 weights_only k (f ∷ fs) ws le h = turn_only k f fs ws (ltb 48 k) refl (λ room vs. weights_only (k + 1) fs vs room) h
 
-pub weights_back : (k : ℕ) (ws : List ℕ) → All Small ws → k + length ws ≤ 49 → weights_from k (map decimal ws) ≡ Ok ws
+pub weights_back : (k : ℕ) (ws : List ℕ) → AllByRecursion Small ws → k + length ws ≤ 49 → weights_from k (map decimal ws) ≡ Ok ws
 weights_back k [] all few = refl
 weights_back k (w ∷ ws) all few =
     let t : ltb 48 k ≡ false = grind (arith, nat_tests) in
@@ -96,14 +96,14 @@ weights_back k (w ∷ ws) all few =
 
 -- the line of the weights
 
-pub split_line : (ws : List ℕ) → All Small ws → 1 ≤ length ws → split 32 (join_with_byte 32 (map decimal ws)) ≡ map decimal ws
+pub split_line : (ws : List ℕ) → AllByRecursion Small ws → 1 ≤ length ws → split 32 (join_with_byte 32 (map decimal ws)) ≡ map decimal ws
 split_line [] all some = absurd (omega arith)
 split_line (w ∷ []) all some = split_none 32 (decimal w) (lacks_number 32 w (λ i. omega arith) all.0)
 split_line (w ∷ v ∷ ws) all some =
     split_first 32 (decimal w) (join_with_byte 32 (map decimal (v ∷ ws))) (lacks_number 32 w (λ i. omega arith) all.0)
     ∙ ap (λ fs. decimal w ∷ fs) (split_line (v ∷ ws) all.1 (omega arith))
 
-pub lacks_line : (ws : List ℕ) → All Small ws → LacksByte 10 (join_with_byte 32 (map decimal ws))
+pub lacks_line : (ws : List ℕ) → AllByRecursion Small ws → LacksByte 10 (join_with_byte 32 (map decimal ws))
 lacks_line [] all = λ k l e. omega arith
 lacks_line (w ∷ []) all = lacks_number 10 w (λ i. omega arith) all.0
 lacks_line (w ∷ v ∷ ws) all =

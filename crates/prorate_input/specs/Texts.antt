@@ -1,6 +1,6 @@
 -- The texts that are inputs, by how they are written.
 use Rattle.std.specs.Prelude.{◌≡◌, ℕ, ◌^◌, ◌<◌, ◌≤◌, ◌⊎◌, List, [], ◌∷◌, ◌++◌, map, length, Ok, Err, decimal, Result}
-use Rattle.std.specs.List.{join_with_byte, AllByRecursion as All}
+use Rattle.std.specs.List.{join_with_byte, AllByRecursion}
 use Rattle.prorate_input.specs.declared.faults.Fault.{Fault}
 
 -- the pot, a line end, and the weights with a space between each two, all in decimal digits
@@ -10,7 +10,7 @@ written pot ws = decimal pot ++ 10 ∷ join_with_byte 32 (map decimal ws)
 -- numbers of at most eleven digits, and 1 to 48 weights
 pub record Within (pot : ℕ) (ws : List ℕ) : Type 0 where
   pub pot_fits : pot < 10 ^ 11
-  pub weights_fit : All (λ w. w < 10 ^ 11) ws
+  pub weights_fit : AllByRecursion (λ w. w < 10 ^ 11) ws
   pub some : 1 ≤ length ws
   pub few : length ws ≤ 48
 

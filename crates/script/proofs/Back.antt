@@ -2,7 +2,7 @@
 use Rattle.std.proofs.Common.{◌≡◌, ℕ, ◌+◌, ◌/◌, ◌%◌, ◌^◌, ◌<◌, Bool, true, cond, not, ◌&&◌, eqb, List, [], ◌∷◌, map, length, Some, None, decimal, refl, ap, ◌∙◌, arith}
 use Rattle.std.specs.Option.{option_map}
 use Rattle.std.specs.Str.Iter.{LacksByte}
-use Rattle.std.specs.List.{join_with_byte, AllByRecursion as All}
+use Rattle.std.specs.List.{join_with_byte, AllByRecursion}
 use Rattle.std.specs.Int.{IsInRange}
 use Rattle.std.proofs.lemmas.Bool.Decides.{nat_tests}
 use Rattle.payers.specs.declared.readings.Reading.{Reading}
@@ -64,14 +64,14 @@ name_free word.Reopen = refl
 name_free word.Confirm = refl
 
 -- numbers
-pub numbers_back : (ns : List ℕ) → All Small ns → numbers_of (map decimal ns) ≡ Some ns
+pub numbers_back : (ns : List ℕ) → AllByRecursion Small ns → numbers_of (map decimal ns) ≡ Some ns
 numbers_back [] all = refl
 numbers_back (n ∷ ns) all =
     let a = number_back n all.0 in
     let b = numbers_back ns all.1 in
     rw (a, b)
 
-pub numbers_lack : (b : ℕ) → (IsInRange 48 57 b → ⊥) → (ns : List ℕ) → All Small ns → All (LacksByte b) (map decimal ns)
+pub numbers_lack : (b : ℕ) → (IsInRange 48 57 b → ⊥) → (ns : List ℕ) → AllByRecursion Small ns → AllByRecursion (LacksByte b) (map decimal ns)
 numbers_lack b out [] all = tt
 numbers_lack b out (n ∷ ns) all = (lacks_number b n out all.0, numbers_lack b out ns all.1)
 
@@ -95,7 +95,7 @@ shed_count : (m n : ℕ) → m ≡ n + n → eqb (m % 2) 0 && eqb (m / 2) n ≡ 
 shed_count m n e = grind (arith, nat_tests)
 
 -- a line of a word and the numbers of a step
-module _ (w : Word) (s : Step) (rs : List Reading) (all : All Small (numbers s rs)) where
+module _ (w : Word) (s : Step) (rs : List Reading) (all : AllByRecursion Small (numbers s rs)) where
   fields_back : step_of w (numbers s rs) ≡ Some s → readings_of s (numbers s rs) ≡ rs → by_word (name w ∷ map decimal (numbers s rs)) ≡ Some (s, rs)
   fields_back t r =
       ap (λ o. on_word o (map decimal (numbers s rs))) (word_back w)
@@ -114,7 +114,7 @@ none_left : (rs : List Reading) → length rs ≡ 0 → [] ≡ rs
 none_left [] e = refl
 none_left (r ∷ rs) e = absurd (omega arith)
 
-pub said_back : (s : Step) (rs : List Reading) → All Small (numbers s rs) → length rs ≡ brings s → said_of (written (s, rs)) ≡ Some (s, rs)
+pub said_back : (s : Step) (rs : List Reading) → AllByRecursion Small (numbers s rs) → length rs ≡ brings s → said_of (written (s, rs)) ≡ Some (s, rs)
 said_back (step.Open t) rs all e = line_of_word word.Open (step.Open t) rs all refl refl (none_left rs e)
 said_back (step.Company n) rs all e = line_of_word word.Company (step.Company n) rs all refl refl (none_left rs e)
 said_back (step.Replace o n) rs all e = line_of_word word.Replace (step.Replace o n) rs all refl refl (none_left rs e)

@@ -1,6 +1,6 @@
 -- A script is read as the calls that it writes, and as nothing else.
 use Rattle.std.proofs.Common.{◌≡◌, ℕ, ◌+◌, ◌<◌, Bool, true, ◌&&◌, ◌⊎◌, List, [], ◌∷◌, ◌++◌, map, length, Some, None, Ok, Err, decimal, Option, Result, sym, refl, ap, ◌∙◌, subst, inl, inr, append_assoc, append-nil, arith, length-append}
-use Rattle.std.specs.List.{flat_map, join_with_byte, AllByRecursion as All}
+use Rattle.std.specs.List.{flat_map, join_with_byte, AllByRecursion}
 use Rattle.std.specs.Str.Iter.{LacksByte}
 use Rattle.std.proofs.ByRecursion.{All-append}
 use Rattle.std.proofs.lemmas.List.{append_cancel_right}
@@ -30,7 +30,7 @@ ok_is h = cc
 
 -- the calls of lines are those that the lines write
 abbrev Lines : List (List ℕ) → List Meant → Type 0
-Lines ls xs = (ls ≡ map written xs) × All Sound xs
+Lines ls xs = (ls ≡ map written xs) × AllByRecursion Sound xs
 
 module _ (k : ℕ) (l : List ℕ) (ls : List (List ℕ)) (xs : List Meant) where
   onto_only : (x : Meant) (r : Result (List Meant) Fault) → said_of l ≡ Some x → ((ys : List Meant) → r ≡ Ok ys → Lines ls ys) → onto x r ≡ Ok xs → Lines (l ∷ ls) xs
@@ -54,7 +54,7 @@ calls_only k (l ∷ ls) xs h = line_only k l ls xs (said_of l) refl (λ ys. call
 sound_back : (x : Meant) → Sound x → said_of (written x) ≡ Some x
 sound_back x s = said_back x.0 x.1 s.small s.sized
 
-calls_back : (k : ℕ) (xs : List Meant) → All Sound xs → calls_from k (map written xs) ≡ Ok xs
+calls_back : (k : ℕ) (xs : List Meant) → AllByRecursion Sound xs → calls_from k (map written xs) ≡ Ok xs
 calls_back k [] all = refl
 calls_back k (x ∷ xs) all =
     ap (λ o. on_line k o (calls_from (k + 1) (map written xs))) (sound_back x all.0) ∙ ap (onto x) (calls_back (k + 1) xs all.1)
@@ -90,7 +90,7 @@ abbrev fields_free : ℕ → List (List ℕ) → Bool
 fields_free b [] = true
 fields_free b (f ∷ fs) = free b f && fields_free b fs
 
-fields_lack : (b : ℕ) (fs : List (List ℕ)) → fields_free b fs ≡ true → All (LacksByte b) fs
+fields_lack : (b : ℕ) (fs : List (List ℕ)) → fields_free b fs ≡ true → AllByRecursion (LacksByte b) fs
 fields_lack b [] e = tt
 fields_lack b (f ∷ fs) e = (free_lacks b f (grind (arith, nat_tests)), fields_lack b fs (grind (arith, nat_tests)))
 
@@ -124,7 +124,7 @@ written_text x s = (
   some_text (written x) x (sound_back x s),
 )
 
-written_texts : (xs : List Meant) → All Sound xs → All LineText (map written xs)
+written_texts : (xs : List Meant) → AllByRecursion Sound xs → AllByRecursion LineText (map written xs)
 written_texts [] all = tt
 written_texts (x ∷ xs) all = (written_text x all.0, written_texts xs all.1)
 
@@ -132,7 +132,7 @@ written_texts (x ∷ xs) all = (written_text x all.0, written_texts xs all.1)
 whole_cons : (l s : List ℕ) → whole_lines (l ∷ split 10 s) ≡ l ∷ whole_lines (split 10 s)
 whole_cons l s = let p = first_piece 10 s in ap (λ ps. whole_lines (l ∷ ps)) p.2 ∙ ap (λ ps. l ∷ whole_lines ps) (sym p.2)
 
-ended_lines : (ls : List (List ℕ)) → All LineText ls → lines_of (ends ls) ≡ ls
+ended_lines : (ls : List (List ℕ)) → AllByRecursion LineText ls → lines_of (ends ls) ≡ ls
 ended_lines [] all = refl
 ended_lines (l ∷ ls) all =
     ap lines_of (append_assoc l (10 ∷ []) (ends ls))
@@ -140,13 +140,13 @@ ended_lines (l ∷ ls) all =
     ∙ whole_cons l (ends ls)
     ∙ ap (λ ms. l ∷ ms) (ended_lines ls all.1)
 
-whole_all : (ls : List (List ℕ)) → All LineText ls → whole_lines ls ≡ ls
+whole_all : (ls : List (List ℕ)) → AllByRecursion LineText ls → whole_lines ls ≡ ls
 whole_all [] all = refl
 whole_all ([] ∷ []) all = absurd (omega (arith, all.0.1))
 whole_all ((c ∷ l) ∷ []) all = refl
 whole_all (l ∷ m ∷ ls) all = ap (λ ms. l ∷ ms) (whole_all (m ∷ ls) all.1)
 
-all_lack : (ls : List (List ℕ)) → All LineText ls → All (LacksByte 10) ls
+all_lack : (ls : List (List ℕ)) → AllByRecursion LineText ls → AllByRecursion (LacksByte 10) ls
 all_lack [] all = tt
 all_lack (l ∷ ls) all = (all.0.0, all_lack ls all.1)
 
@@ -157,14 +157,14 @@ ends_last l (m ∷ ls) =
     ∙ ap (λ t. l ++ 10 ∷ t) (ends_last m ls)
     ∙ sym (append_assoc l (10 ∷ join_with_byte 10 (m ∷ ls)) (10 ∷ []))
 
-open_lines : (bytes : List ℕ) (ls : List (List ℕ)) → All LineText ls → bytes ++ 10 ∷ [] ≡ ends ls → lines_of bytes ≡ ls
+open_lines : (bytes : List ℕ) (ls : List (List ℕ)) → AllByRecursion LineText ls → bytes ++ 10 ∷ [] ≡ ends ls → lines_of bytes ≡ ls
 open_lines bytes [] all e = absurd (omega (arith, sym (length-append bytes (10 ∷ [])) ∙ ap length e))
 open_lines bytes (l ∷ ls) all e =
     ap lines_of (append_cancel_right bytes (join_with_byte 10 (l ∷ ls)) (10 ∷ []) (e ∙ ends_last l ls))
     ∙ ap whole_lines (split_rejoined 10 l ls (all_lack (l ∷ ls) all))
     ∙ whole_all (l ∷ ls) all
 
-lines_by : (bytes : List ℕ) (ls : List (List ℕ)) → All LineText ls → (bytes ≡ ends ls) ⊎ (bytes ++ 10 ∷ [] ≡ ends ls) → lines_of bytes ≡ ls
+lines_by : (bytes : List ℕ) (ls : List (List ℕ)) → AllByRecursion LineText ls → (bytes ≡ ends ls) ⊎ (bytes ++ 10 ∷ [] ≡ ends ls) → lines_of bytes ≡ ls
 lines_by bytes ls all (inl e) = ap lines_of e ∙ ended_lines ls all
 lines_by bytes ls all (inr e) = open_lines bytes ls all e
 

@@ -1,7 +1,7 @@
 -- What is read of a line is what the line writes.
 use Rattle.std.proofs.Common.{◌≡◌, ℕ, zero, suc, ◌+◌, ◌/◌, ◌%◌, ◌^◌, ◌<◌, Bool, true, false, cond, ◌&&◌, eqb, List, [], ◌∷◌, ◌++◌, map, length, Some, None, codes, decimal, Option, sym, refl, ap, ◌∙◌, subst, arith, eqb-true}
 use Rattle.std.specs.Option.{option_map}
-use Rattle.std.specs.List.{join_with_byte, AllByRecursion as All}
+use Rattle.std.specs.List.{join_with_byte, AllByRecursion}
 use Rattle.std.specs.Str.{bytes_eq}
 use Rattle.std.proofs.lemmas.Slice.Eq.{bytes_eq-Decides}
 use Rattle.std.proofs.lemmas.Bool.Decides.{nat_tests}
@@ -36,20 +36,20 @@ abbrev Small : ℕ → Type 0
 Small n = n < 10 ^ 11
 
 module _ (f : List ℕ) (fs : List (List ℕ)) where
-  onto_only : (n : ℕ) (o : Option (List ℕ)) (ns : List ℕ) → number_of f ≡ Some n → ((ms : List ℕ) → o ≡ Some ms → (fs ≡ map decimal ms) × All Small ms) → option_map (λ ms. n ∷ ms) o ≡ Some ns → (f ∷ fs ≡ map decimal ns) × All Small ns
+  onto_only : (n : ℕ) (o : Option (List ℕ)) (ns : List ℕ) → number_of f ≡ Some n → ((ms : List ℕ) → o ≡ Some ms → (fs ≡ map decimal ms) × AllByRecursion Small ms) → option_map (λ ms. n ∷ ms) o ≡ Some ns → (f ∷ fs ≡ map decimal ns) × AllByRecursion Small ns
   onto_only n None ns e ih h = absurd (none_some h)
   onto_only n (Some ms) ns e ih h =
       let first = number_only f n e in
       let rest = ih ms refl in
-      let P : List ℕ → Type 0 = λ l. (f ∷ fs ≡ map decimal l) × All Small l in
+      let P : List ℕ → Type 0 = λ l. (f ∷ fs ≡ map decimal l) × AllByRecursion Small l in
       subst P (some_is h) (ap (λ g. g ∷ fs) first.0 ∙ ap (λ gs. decimal n ∷ gs) rest.0, (first.1, rest.1))
 
-  field_only : (o : Option ℕ) (ns : List ℕ) → number_of f ≡ o → ((ms : List ℕ) → numbers_of fs ≡ Some ms → (fs ≡ map decimal ms) × All Small ms) → and_then o (λ n. option_map (λ ms. n ∷ ms) (numbers_of fs)) ≡ Some ns → (f ∷ fs ≡ map decimal ns) × All Small ns
+  field_only : (o : Option ℕ) (ns : List ℕ) → number_of f ≡ o → ((ms : List ℕ) → numbers_of fs ≡ Some ms → (fs ≡ map decimal ms) × AllByRecursion Small ms) → and_then o (λ n. option_map (λ ms. n ∷ ms) (numbers_of fs)) ≡ Some ns → (f ∷ fs ≡ map decimal ns) × AllByRecursion Small ns
   field_only None ns e ih h = absurd (none_some h)
   field_only (Some n) ns e ih h = onto_only n (numbers_of fs) ns e ih h
 
-pub numbers_only : (fs : List (List ℕ)) (ns : List ℕ) → numbers_of fs ≡ Some ns → (fs ≡ map decimal ns) × All Small ns
-numbers_only [] ns h = let P : List ℕ → Type 0 = λ l. ([] ≡ map decimal l) × All Small l in subst P (some_is h) (refl, tt)
+pub numbers_only : (fs : List (List ℕ)) (ns : List ℕ) → numbers_of fs ≡ Some ns → (fs ≡ map decimal ns) × AllByRecursion Small ns
+numbers_only [] ns h = let P : List ℕ → Type 0 = λ l. ([] ≡ map decimal l) × AllByRecursion Small l in subst P (some_is h) (refl, tt)
 numbers_only (f ∷ fs) ns h = field_only f fs (number_of f) ns refl (λ ms. numbers_only fs ms) h
 
 -- an hourly line
@@ -144,14 +144,14 @@ step_fits word.Confirm ns s e = none_by _ (λ t ms. Fits word.Confirm ms t) (fit
 
 -- a whole line
 module _ (line : List ℕ) (x : Meant) where
-  step_says : (f : List ℕ) (fs : List (List ℕ)) (w : Word) (ns : List ℕ) (o : Option Step) → split 32 line ≡ f ∷ fs → f ≡ name w → (fs ≡ map decimal ns) × All Small ns → step_of w ns ≡ o → with_readings ns o ≡ Some x → Says line x
+  step_says : (f : List ℕ) (fs : List (List ℕ)) (w : Word) (ns : List ℕ) (o : Option Step) → split 32 line ≡ f ∷ fs → f ≡ name w → (fs ≡ map decimal ns) × AllByRecursion Small ns → step_of w ns ≡ o → with_readings ns o ≡ Some x → Says line x
   step_says f fs w ns None e i n t h = absurd (none_some h)
   step_says f fs w ns (Some s) e i n t h =
       let p = step_fits w ns s t in
       let P : Meant → Type 0 = λ y. Says line y in
       subst P (some_is h) (record {
         text = sym (rejoined_split 32 line) ∙ ap (join_with_byte 32) (e ∙ ap (λ g. g ∷ fs) i ∙ ap (λ gs. name w ∷ gs) n.0 ∙ ap (λ ms. name w ∷ map decimal ms) p.rest ∙ ap (λ gs. gs ++ map decimal (numbers s (readings_of s ns))) p.first);
-        small = subst (All Small) p.rest n.1;
+        small = subst (AllByRecursion Small) p.rest n.1;
         sized = p.sized;
       })
 

@@ -1,6 +1,6 @@
 -- The lines that are calls, by how they are written.
 use Rattle.std.specs.Prelude.{◌≡◌, ℕ, ◌^◌, ◌<◌, ◌⊎◌, List, [], ◌∷◌, ◌++◌, map, length, Some, codes, decimal, Option}
-use Rattle.std.specs.List.{flat_map, join_with_byte, AllByRecursion as All}
+use Rattle.std.specs.List.{flat_map, join_with_byte, AllByRecursion}
 use Rattle.payers.specs.declared.readings.Reading.{Reading}
 use Rattle.prorating.specs.declared.built_in.BuiltIn.TheVariants.{Running, Largest}
 use Rattle.worth.specs.Lines.{kind}
@@ -66,7 +66,7 @@ written x = join_with_byte 32 (front x.0 ++ map decimal (numbers x.0 x.1))
 -- a line writes this call, whose numbers have at most eleven digits, and which brings as many readings as it says
 pub record Says (line : List ℕ) (x : Meant) : Type 0 where
   pub text : line ≡ written x
-  pub small : All (λ n. n < 10 ^ 11) (numbers x.0 x.1)
+  pub small : AllByRecursion (λ n. n < 10 ^ 11) (numbers x.0 x.1)
   pub sized : length x.1 ≡ brings x.0
 
 -- m answers with a call just where the line writes it
@@ -84,4 +84,4 @@ script xs = flat_map (λ line. line ++ 10 ∷ []) (map written xs)
 -- bytes write these calls, with the last line end or without
 pub record SaysAll (bytes : List ℕ) (xs : List Meant) : Type 0 where
   pub text : (bytes ≡ script xs) ⊎ (bytes ++ 10 ∷ [] ≡ script xs)
-  pub sound : All Sound xs
+  pub sound : AllByRecursion Sound xs

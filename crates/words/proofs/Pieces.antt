@@ -1,7 +1,7 @@
 -- The pieces of a text.
 use Rattle.std.proofs.Common.{◌≡◌, ℕ, zero, suc, ◌+◌, ◌<◌, Bool, true, false, cond, eqb, List, [], ◌∷◌, ◌++◌, length, get_or, take, drop, sym, refl, ap, ◌∙◌, add-one, arith, eq-eqb, ne_eqb, eqb-true}
 use Rattle.std.specs.Str.Iter.{LacksByte}
-use Rattle.std.specs.List.{join_with_byte, AllByRecursion as All}
+use Rattle.std.specs.List.{join_with_byte, AllByRecursion}
 use Rattle.words.specs.Words.{onto, split}
 
 -- the first piece ends before the first mark
@@ -63,12 +63,12 @@ rejoined_split mark (c ∷ s) =
     by false f (g ∷ fs) e = refl
 
 -- pieces that lack the mark are those of the text that they are put together to
-pub split_rejoined : (mark : ℕ) (f : List ℕ) (fs : List (List ℕ)) → All (LacksByte mark) (f ∷ fs) → split mark (join_with_byte mark (f ∷ fs)) ≡ f ∷ fs
+pub split_rejoined : (mark : ℕ) (f : List ℕ) (fs : List (List ℕ)) → AllByRecursion (LacksByte mark) (f ∷ fs) → split mark (join_with_byte mark (f ∷ fs)) ≡ f ∷ fs
 split_rejoined mark f [] free = split_none mark f free.0
 split_rejoined mark f (g ∷ fs) free =
     split_first mark f (join_with_byte mark (g ∷ fs)) free.0 ∙ ap (λ ps. f ∷ ps) (split_rejoined mark g fs free.1)
 
-pub lacks_rejoined : (b mark : ℕ) (fs : List (List ℕ)) → (mark ≡ b → ⊥) → All (LacksByte b) fs → LacksByte b (join_with_byte mark fs)
+pub lacks_rejoined : (b mark : ℕ) (fs : List (List ℕ)) → (mark ≡ b → ⊥) → AllByRecursion (LacksByte b) fs → LacksByte b (join_with_byte mark fs)
 lacks_rejoined b mark [] ne free = λ k l e. omega arith
 lacks_rejoined b mark (f ∷ []) ne free = free.0
 lacks_rejoined b mark (f ∷ g ∷ fs) ne free =
