@@ -2,7 +2,7 @@
 
 #![tactic(auto)]
 
-ghost use Rattle.std.specs.Prelude.{◌≡◌, leb, length, replicate, if◌then◌else◌, sum, nat_le, slice_index};
+ghost use Rattle.std.specs.Prelude.{◌≡◌, length, replicate, if◌then◌else◌, sum, nat_le, slice_index};
 ghost use Rattle.prorating.specs.Largest.{largest};
 ghost use Rattle.prorating.specs.Running.{running};
 ghost use Rattle.std.proofs.lemmas.Bool.{cond_both};
@@ -24,7 +24,7 @@ pub struct Mixed {
 }
 
 impl Rule for Mixed {
-    ghost shares = { λ rule pot ws. (if leb pot rule.threshold then running pot ws else largest pot ws) };
+    ghost shares = { λ rule pot ws. (if nat_le pot rule.threshold then running pot ws else largest pot ws) };
 
     ghost long = { λ rule pot ws w.
         cond_both (nat_le pot rule.threshold) (running pot ws) (largest pot ws) (λ shares. length shares ≡ 48)

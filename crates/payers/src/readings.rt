@@ -1,7 +1,7 @@
 // The readings of a shedding: what each unit injected in the hour before it.
 ghost use Rattle.std.specs.Prelude.{◌≡◌, length, nat_le};
 ghost use Rattle.std.specs.List.{list_all};
-ghost use Rattle.payers.specs.Zones.{is_within_limit as is_Within, are_readings};
+ghost use Rattle.payers.specs.Zones.{is_within_limit as is_within, are_readings};
 
 // How many readings a shedding brings at most.
 pub const READINGS: usize = 48;
@@ -26,7 +26,7 @@ fn are_few(readings: &[Reading]) -> bool
 impl Reading {
     // Whether the kWh are within their limit.
     pub fn is_within_limit(&self) -> bool
-        ensures { result ≡ is_Within self.now }
+        ensures { result ≡ is_within self.now }
     {
         self.kwh <= KWH_LIMIT
     }
@@ -34,7 +34,7 @@ impl Reading {
 
 // Whether each is within its limit.
 fn are_small(readings: &[Reading]) -> bool
-    ensures { result ≡ list_all is_Within readings.now }
+    ensures { result ≡ list_all is_within readings.now }
 {
     for reading in readings {
         if !reading.is_within_limit() {

@@ -1,5 +1,5 @@
 // What is asked of the accounts, and what is entered.
-ghost use Rattle.std.specs.Prelude.{◌≡◌, ◌≤◌, leb, length, if◌then◌else◌, Some, None, MatchOption, nat_le};
+ghost use Rattle.std.specs.Prelude.{◌≡◌, ◌≤◌, length, if◌then◌else◌, Some, None, MatchOption, nat_le};
 ghost use Rattle.prorating.specs.Weights.{limit};
 ghost use Rattle.tables.specs.Accounts.{nothing_held, pot_at, passes as passes_limit, is_credited as is_credited_in, has_room as has_room_in, entered, with_pot, shed as shed_in};
 ghost use Rattle.tables.specs.Entries.{entry};
@@ -104,7 +104,7 @@ impl Accounts {
 
     // Gives a shedding a pot of its own, where it is worth anything and there is room.
     fn give_pot(&mut self, cents: u64, base: ZoneHour)
-        ensures pots { (held self.new).pots ≡ (if leb 16 (length (held self.old).pots) then (held self.old).pots else with_pot (held self.old).pots cents base.kwh) }
+        ensures pots { (held self.new).pots ≡ (if nat_le 16 (length (held self.old).pots) then (held self.old).pots else with_pot (held self.old).pots cents base.kwh) }
         ensures earned { self.new.earned ≡ self.old.earned }
         ensures services { self.new.services ≡ self.old.services }
         ensures credits { self.new.credits ≡ self.old.credits }

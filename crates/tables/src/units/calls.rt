@@ -1,5 +1,5 @@
 // What is asked of a table of units, and what is entered.
-ghost use Rattle.std.specs.Prelude.{◌≡◌, false, leb, [], length, if◌then◌else◌, Some, None, MatchOption, nat_le, slice_index_or};
+ghost use Rattle.std.specs.Prelude.{◌≡◌, false, [], length, if◌then◌else◌, Some, None, MatchOption, nat_le, slice_index_or};
 ghost use Rattle.tables.specs.Entries.{is_numbered, entry};
 ghost use Rattle.tables.specs.Units.{fresh as fresh_row, Stands, Absent, find as row_of, place as place_of, owner_in as owner_in_zone, performance as performance_in, installed as installed_in, slot as slot_of, given as given_in, is_addable as is_addable_to, added, with_performance, with_installation, with_line, change};
 ghost use Rattle.tables.specs.Tables.{listed};
@@ -12,7 +12,7 @@ use worth::{Line, Performance};
 
 // Where an hour's line of a kind stands in a row; None where no month has such an hour.
 fn line_index(hour: u64, line: &Line) -> Option<usize>
-    ensures { result ≡ (if leb 745 hour then None else Some (slot_of hour line.now)) }
+    ensures { result ≡ (if nat_le 745 hour then None else Some (slot_of hour line.now)) }
 {
     if hour >= 745 {
         return None;
@@ -55,7 +55,7 @@ impl UnitRow {
 
     // Whether there is a line of this line's kind in the hour.
     fn is_given(&self, hour: u64, line: &Line) -> bool
-        ensures { result ≡ (if leb 745 hour then false else slice_index_or self.now.given (slot_of hour line.now) false) }
+        ensures { result ≡ (if nat_le 745 hour then false else slice_index_or self.now.given (slot_of hour line.now) false) }
     {
         match line_index(hour, line) {
             Some(index) => self.given[index],
