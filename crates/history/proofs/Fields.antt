@@ -65,12 +65,12 @@ replace_more gone takes by ps old new long each fits free k =
     })
 
 pub meter_more : (on : ℕ → Bool) (w i : ℕ → Option ℕ) (m : Metering) (n x y : ℕ) → length m.given ≡ 32 → length m.withdrawals ≡ 32 → length m.injections ≡ 32 → no_company n ≡ false → Meters on w i m → Meters (λ c. eqb n c || on c) (λ c. either (when (eqb n c) x) (w c)) (λ c. either (when (eqb n c) y) (i c)) (record { given = with_entry 32 m.given n true; withdrawals = with_entry 32 m.withdrawals n x; injections = with_entry 32 m.injections n y })
-meter_more on w i m n x y given-long w-long i-long fits k =
+meter_more on w i m n x y given_long w_long i_long fits k =
     let there = inside n fits in
     record {
-      given = λ c. marks_more m.given n c given-long there ∙ ap (λ t. eqb n c || t) (k.given c);
-      withdrawals = λ c company. entry_with 32 0 m.withdrawals w-long n x there c ∙ ap (cond (eqb n c) x) (k.withdrawals c company) ∙ latest_value (eqb n c) x 0 (w c);
-      injections = λ c company. entry_with 32 0 m.injections i-long n y there c ∙ ap (cond (eqb n c) y) (k.injections c company) ∙ latest_value (eqb n c) y 0 (i c);
+      given = λ c. marks_more m.given n c given_long there ∙ ap (λ t. eqb n c || t) (k.given c);
+      withdrawals = λ c company. entry_with 32 0 m.withdrawals w_long n x there c ∙ ap (cond (eqb n c) x) (k.withdrawals c company) ∙ latest_value (eqb n c) x 0 (w c);
+      injections = λ c company. entry_with 32 0 m.injections i_long n y there c ∙ ap (cond (eqb n c) y) (k.injections c company) ∙ latest_value (eqb n c) y 0 (i c);
     }
 
 -- points

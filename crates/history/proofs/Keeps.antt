@@ -312,10 +312,10 @@ module _ {R : Type 0} (share : R → Sharing) (h : List (Meant R)) (b : Book) (f
 
   -- a stage call changes the stage alone
   staged : (c : StageCall R) (p : Phase) (cs : List (List ℕ)) (t : Terms) → p ≡ phase (stage c ∷ h) → t ≡ terms (stage c ∷ h) → (is_charged p ≡ true → (cs ≡ charges share (stage c ∷ h)) × (some_strands (service_pots_in b) ≡ false) × ((r : R) × (latest (on_settle None Some) (stage c ∷ h) ≡ Some r))) → Holds share (stage c ∷ h) (with_phase b p cs t)
-  staged c p cs t is-p is-t is_c =
+  staged c p cs t is_p is_t is_c =
       record {
-        phase = is-p;
-        terms = is-t;
+        phase = is_p;
+        terms = is_t;
         charges = λ charged. (is_c charged).0;
         companies = k.companies;
         replacing = k.replacing;

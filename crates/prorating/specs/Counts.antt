@@ -42,8 +42,8 @@ counting_count test n =
 
 -- two lists with the same at each place
 pub same_places : (xs ys : List ℕ) (n : ℕ) → length xs ≡ n → length ys ≡ n → ((k : ℕ) → k < n → slice_index xs k ≡ slice_index ys k) → xs ≡ ys
-same_places xs ys n long-xs long-ys each =
-    fill_by_all (λ k. slice_index ys k) xs n 0 long-xs each ∙ sym (fill_by_all (λ k. slice_index ys k) ys n 0 long-ys (λ k h. refl))
+same_places xs ys n long_xs long_ys each =
+    fill_by_all (λ k. slice_index ys k) xs n 0 long_xs each ∙ sym (fill_by_all (λ k. slice_index ys k) ys n 0 long_ys (λ k h. refl))
 
 pub sum_to_add : (f g : ℕ → ℕ) (n : ℕ) → sum_to (λ k. f k + g k) n ≡ sum_to f n + sum_to g n
 sum_to_add f g zero = refl

@@ -104,4 +104,4 @@ not_both variable marginal energy full injected factor other h k =
     (cases_lt variable marginal)
 
 pub never_both : NeverBoth
-never_both = record { at-the-same-prices = not_both }
+never_both = record { at_the_same_prices = not_both }

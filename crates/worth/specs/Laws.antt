@@ -24,7 +24,7 @@ pub record Laws (line : Line) (factor : ℕ) : Type 0 where
 -- At the same prices a unit is not paid both for energy that costs it more than the marginal cost and for energy that would have cost it
 -- less: over-cost and opportunity are never both above 0.
 pub record NeverBoth : Type 0 where
-  pub at-the-same-prices :
+  pub at_the_same_prices :
       (variable marginal energy full injected factor other : ℕ) →
       0 < worth (OverCost variable marginal energy) factor →
       0 < worth (Opportunity variable marginal full injected) other →
