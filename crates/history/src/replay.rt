@@ -8,7 +8,9 @@ use month::calls::Call;
 use month::figures::Outcome;
 use month::month::Month;
 use month::refusal::Refusal;
+use payers::readings::Reading;
 use prorating::rule::Rule;
+use std::convert::AsSlice;
 
 // The number of an answer: 0 where the call is admitted, else the refusal's.
 fn answer_number(answer: Result<(), Refusal>) -> u8
@@ -22,13 +24,13 @@ fn answer_number(answer: Result<(), Refusal>) -> u8
 
 // Makes the calls one after the other on a blank month and notes the number of each answer; then asks for the payments by a rule, and for the figures
 // of all companies and the charges of all pots. Too short a list of answers, or too short a table, is refused.
-pub fn replay<R: Rule, P: Rule>(
-    calls: &[Call<'_, R>],
+pub fn replay<T: AsSlice<Reading>, R: Rule, P: Rule>(
+    calls: &[Call<T, R>],
     answers: &mut [u8],
     rule: &P,
     table: &mut [u64],
 ) -> Result<Outcome, Refusal>
-    ensures { Replayed R.Rule.shares (P.Rule.shares rule.now) (map meant calls.now) answers.old answers.new table.old table.new result }
+    ensures { Replayed R.Rule.shares (P.Rule.shares rule.now) (map (meant T.items) calls.now) answers.old answers.new table.old table.new result }
 {
     if answers.len() < calls.len() {
         return Err(Refusal::Short);

@@ -1,4 +1,4 @@
--- The calls that are meant: a call of the code, wherever its readings lie.
+-- The calls that are meant: a call of the code, with the readings that its list holds.
 use Rattle.std.specs.Prelude.{ℕ, List}
 use Rattle.worth.specs.declared.line.Line.{Line}
 use Rattle.worth.specs.declared.performance.Performance.{Performance}
@@ -23,17 +23,17 @@ pub data Meant (R : Type 0) : Type 0 where
   post : Posted → Meant R
   stage : StageCall R → Meant R
 
-abbrev pub meant_post : Post → Posted
-meant_post (Post.Company n) = company n
-meant_post (Post.Replace old new) = replace old new
-meant_post (Post.Unit n o z) = unit n o z
-meant_post (Post.Performance u f p) = performance u f p
-meant_post (Post.Line u hour f l) = line u hour f l
-meant_post (Post.Installation u f a m) = installation u f a m
-meant_post (Post.Meter c w i) = meter c w i
-meant_post (Post.Point n s) = point n s
-meant_post (Post.Shed p kw s z rs) = shed p kw s z rs.now
+abbrev pub meant_post : {T : Type 0} → (T → List Reading) → Post T → Posted
+meant_post items (Post.Company n) = company n
+meant_post items (Post.Replace old new) = replace old new
+meant_post items (Post.Unit n o z) = unit n o z
+meant_post items (Post.Performance u f p) = performance u f p
+meant_post items (Post.Line u hour f l) = line u hour f l
+meant_post items (Post.Installation u f a m) = installation u f a m
+meant_post items (Post.Meter c w i) = meter c w i
+meant_post items (Post.Point n s) = point n s
+meant_post items (Post.Shed p kw s z rs) = shed p kw s z (items rs)
 
-abbrev pub meant : {R : Type 0} → Call R → Meant R
-meant (Call.Post p) = post (meant_post p)
-meant (Call.Stage s) = stage s
+abbrev pub meant : {T R : Type 0} → (T → List Reading) → Call T R → Meant R
+meant items (Call.Post p) = post (meant_post items p)
+meant items (Call.Stage s) = stage s

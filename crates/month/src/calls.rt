@@ -1,5 +1,4 @@
 // The calls on a month, with any figures.
-use payers::readings::Reading;
 use worth::{Line, Performance};
 
 // The figures that a month is opened with.
@@ -12,9 +11,9 @@ pub struct Terms {
     pub seconds: u64,
 }
 
-// What is posted in an open month. A shedding's readings are the caller's.
-#[derive(Clone, Copy)]
-pub enum Post<'a> {
+// What is posted in an open month. A shedding's readings are a list of `T`: a slice of the caller's, or a vector.
+#[derive(Clone, Copy, Drop)]
+pub enum Post<T> {
     Company {
         number: u64,
     },
@@ -58,12 +57,12 @@ pub enum Post<'a> {
         kw: u64,
         seconds: u64,
         zone: u64,
-        readings: &'a [Reading],
+        readings: T,
     },
 }
 
 // What moves the stage.
-#[derive(Clone, Copy)]
+#[derive(Clone, Copy, Drop)]
 pub enum StageCall<R> {
     Open(Terms),
     Settle(R),
@@ -71,8 +70,8 @@ pub enum StageCall<R> {
     Confirm,
 }
 
-#[derive(Clone, Copy)]
-pub enum Call<'a, R> {
-    Post(Post<'a>),
+#[derive(Clone, Copy, Drop)]
+pub enum Call<T, R> {
+    Post(Post<T>),
     Stage(StageCall<R>),
 }

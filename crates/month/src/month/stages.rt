@@ -11,7 +11,9 @@ use crate::calls::{Call, Post, StageCall};
 use crate::refusal::Refusal;
 use payers::base::PayerBase;
 use payers::charging::total_weight;
+use payers::readings::Reading;
 use prorating::rule::Rule;
+use std::convert::AsSlice;
 
 // Whether a pot above 0 has nobody to pay it.
 fn is_stranded<B: PayerBase>(cents: u64, base: &B) -> bool
@@ -65,55 +67,55 @@ impl Month {
     }
 
     // Any post.
-    pub fn post(&mut self, post: &Post<'_>) -> Result<(), Refusal>
-        ensures answer { result ≡ post_answer (book self.old) (meant_post post.now) }
-        ensures after { book self.new ≡ post_after (book self.old) (meant_post post.now) }
+    pub fn post<T: AsSlice<Reading>>(&mut self, post: &Post<T>) -> Result<(), Refusal>
+        ensures answer { result ≡ post_answer (book self.old) (meant_post T.items post.now) }
+        ensures after { book self.new ≡ post_after (book self.old) (meant_post T.items post.now) }
     {
-        match *post {
-            Post::Company { number } => self.company(number),
-            Post::Replace { old, new } => self.replace(old, new),
+        match post {
+            Post::Company { number } => self.company(*number),
+            Post::Replace { old, new } => self.replace(*old, *new),
             Post::Unit {
                 number,
                 owner,
                 zone,
-            } => self.unit(number, owner, zone),
+            } => self.unit(*number, *owner, *zone),
             Post::Performance {
                 unit,
                 family,
                 performance,
-            } => self.performance(unit, family, performance),
+            } => self.performance(*unit, *family, *performance),
             Post::Line {
                 unit,
                 hour,
                 family,
                 line,
-            } => self.line(unit, hour, family, line),
+            } => self.line(*unit, *hour, *family, *line),
             Post::Installation {
                 unit,
                 family,
                 annuity,
                 maintenance,
-            } => self.installation(unit, family, annuity, maintenance),
+            } => self.installation(*unit, *family, *annuity, *maintenance),
             Post::Meter {
                 company,
                 withdrawals,
                 injections,
-            } => self.meter(company, withdrawals, injections),
-            Post::Point { number, supplier } => self.point(number, supplier),
+            } => self.meter(*company, *withdrawals, *injections),
+            Post::Point { number, supplier } => self.point(*number, *supplier),
             Post::Shed {
                 point,
                 kw,
                 seconds,
                 zone,
                 readings,
-            } => self.shed(point, kw, seconds, zone, readings),
+            } => self.shed(*point, *kw, *seconds, *zone, readings.as_slice()),
         }
     }
 
     // Any call.
-    pub fn apply<R: Rule>(&mut self, call: &Call<'_, R>) -> Result<(), Refusal>
-        ensures answer { result ≡ answer_of (book self.old) (meant call.now) }
-        ensures after { book self.new ≡ after_of R.Rule.shares (book self.old) (meant call.now) }
+    pub fn apply<T: AsSlice<Reading>, R: Rule>(&mut self, call: &Call<T, R>) -> Result<(), Refusal>
+        ensures answer { result ≡ answer_of (book self.old) (meant T.items call.now) }
+        ensures after { book self.new ≡ after_of R.Rule.shares (book self.old) (meant T.items call.now) }
     {
         match call {
             Call::Post(post) => self.post(post),

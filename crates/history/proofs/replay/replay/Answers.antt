@@ -44,24 +44,24 @@ keeps g rule =
 
 pub returns-then-answers-calls : goal.returns-then-answers-calls
 returns-then-answers-calls g c =
-    refused g.R.Rule.shares (keeps g) (g.P.Rule.shares c.args.rule.now) (kept g c.args.rule.now) c.args.calls.now c.args.answers.now c.args.table.now
-    (short_list g.R.Rule.shares (keeps g) (g.P.Rule.shares c.args.rule.now) (kept g c.args.rule.now) c.args.calls.now c.args.answers.now c.args.table.now c.if-answers-calls.true)
+    refused g.T.AsSlice.items g.R.Rule.shares (keeps g) (g.P.Rule.shares c.args.rule.now) (kept g c.args.rule.now) c.args.calls.now c.args.answers.now c.args.table.now
+    (short_list g.T.AsSlice.items g.R.Rule.shares (keeps g) (g.P.Rule.shares c.args.rule.now) (kept g c.args.rule.now) c.args.calls.now c.args.answers.now c.args.table.now c.if-answers-calls.true)
 
 pub returns-then-table-lt-ENTRIES : goal.returns-then-table-lt-ENTRIES
 returns-then-table-lt-ENTRIES g c =
-    refused g.R.Rule.shares (keeps g) (g.P.Rule.shares c.args.rule.now) (kept g c.args.rule.now) c.args.calls.now c.args.answers.now c.args.table.now
-    (short_table g.R.Rule.shares (keeps g) (g.P.Rule.shares c.args.rule.now) (kept g c.args.rule.now) c.args.calls.now c.args.answers.now c.args.table.now c.if-table-lt-ENTRIES.true)
+    refused g.T.AsSlice.items g.R.Rule.shares (keeps g) (g.P.Rule.shares c.args.rule.now) (kept g c.args.rule.now) c.args.calls.now c.args.answers.now c.args.table.now
+    (short_table g.T.AsSlice.items g.R.Rule.shares (keeps g) (g.P.Rule.shares c.args.rule.now) (kept g c.args.rule.now) c.args.calls.now c.args.answers.now c.args.table.now c.if-table-lt-ENTRIES.true)
 
 pub loop-i-init : goal.loop-i-init
-loop-i-init g c = starts g.R.Rule.shares c.args.calls.now c.args.answers.now _ c.blank-month.ensures
+loop-i-init g c = starts g.T.AsSlice.items g.R.Rule.shares c.args.calls.now c.args.answers.now _ c.blank-month.ensures
 
 pub loop-i-preserved : goal.loop-i-preserved
 loop-i-preserved g c =
-    goes_on g.R.Rule.shares _ _ _ _ c.index-calls-i.result _ _ _ _ c.loop-i-test.true c.if-answers-calls.false c.index-calls-i.is c.answer_number.ensures c.apply.ensures.answer c.apply.ensures.after (sound c.loop-i.month) c.loop-i.invariant
+    goes_on g.T.AsSlice.items g.R.Rule.shares _ _ _ _ c.index-calls-i.result _ _ _ _ c.loop-i-test.true c.if-answers-calls.false c.index-calls-i.is c.answer_number.ensures c.apply.ensures.answer c.apply.ensures.after (sound c.loop-i.month) c.loop-i.invariant
 
 pub returns-in-Ok : goal.returns-in-Ok
 returns-in-Ok g c =
-    told_so g.R.Rule.shares (keeps g) (g.P.Rule.shares c.args.rule.now) (kept g c.args.rule.now) c.args.calls.now c.args.answers.now c.args.table.now
+    told_so g.T.AsSlice.items g.R.Rule.shares (keeps g) (g.P.Rule.shares c.args.rule.now) (kept g c.args.rule.now) c.args.calls.now c.args.answers.now c.args.table.now
     c.loop-i.answers c.loop-i.i (book c.loop-i.month) c.if-answers-calls.false c.if-table-lt-ENTRIES.false c.loop-i-test.false (omega arith) (sound c.loop-i.month) c.loop-i.invariant
     c.payments.new.table c.outcome.result c.outcome.ensures c.payments.ensures.after
 
@@ -70,9 +70,9 @@ returns-in-Err g c =
     let share = g.R.Rule.shares in
     let by = g.P.Rule.shares c.args.rule.now in
     let refusal =
-    stage_refused share (keeps g) by (kept g c.args.rule.now) c.args.calls.now c.args.answers.now c.args.table.now
+    stage_refused g.T.AsSlice.items share (keeps g) by (kept g c.args.rule.now) c.args.calls.now c.args.answers.now c.args.table.now
     c.loop-i.answers c.loop-i.i (book c.loop-i.month) c.if-answers-calls.false c.if-table-lt-ENTRIES.false c.loop-i-test.false (omega arith) (sound c.loop-i.month) c.loop-i.invariant
     c.in-Err.refusal c.in-Err.ensures.answer in
-    told_so share (keeps g) by (kept g c.args.rule.now) c.args.calls.now c.args.answers.now c.args.table.now
+    told_so g.T.AsSlice.items share (keeps g) by (kept g c.args.rule.now) c.args.calls.now c.args.answers.now c.args.table.now
     c.loop-i.answers c.loop-i.i (book c.loop-i.month) c.if-answers-calls.false c.if-table-lt-ENTRIES.false c.loop-i-test.false (omega arith) (sound c.loop-i.month) c.loop-i.invariant
     c.payments.new.table (Err c.in-Err.refusal) refusal c.payments.ensures.after
