@@ -9,6 +9,7 @@ use crate::refusal::Refusal;
 use payers::base::COMPANIES;
 use prorating::rule::Rule;
 use prorating::weights::{PLACES, Weights};
+use std::array;
 
 // How many entries the payments take: one for each pair of companies.
 pub const ENTRIES: usize = 1_024;
@@ -17,11 +18,7 @@ pub const ENTRIES: usize = 1_024;
 fn less(due: &[u64; PLACES], given: &[u64; PLACES]) -> [u64; PLACES]
     ensures { result ≡ less_of due.now given.now }
 {
-    let mut left = [0; PLACES];
-    for k in 0..PLACES {
-        left[k] = due[k].saturating_sub(given[k]);
-    }
-    left
+    array::from_fn(|k| due[k].saturating_sub(given[k]))
 }
 
 // The dues at the places of a rule.
@@ -38,20 +35,14 @@ fn weight_list(due: &[u64; PLACES]) -> Weights
     requires { sum due.now ≤ limit }
     ensures { result.at ≡ due.now }
 {
-    match Weights::of(due) {
-        Ok(list) => list,
-        Err(_) => unreachable(),
-    }
+    Weights::of(due).unwrap()
 }
 
 // Whether all dues together are within the limit.
 fn are_within_limit(dues: &[u64; COMPANIES]) -> bool
     ensures { result ≡ nat_le (sum dues.now) limit }
 {
-    match Weights::of(dues) {
-        Ok(_) => true,
-        Err(_) => false,
-    }
+    Weights::of(dues).is_ok()
 }
 
 // Writes what one company pays.
@@ -82,8 +73,8 @@ pub fn pay<R: Rule>(
         return Err(Refusal::Total);
     }
     let mut due = places(dues);
-    for from in 0..COMPANIES {
-        let row = rule.prorate(debts[from], &weight_list(&due));
+    for (from, debt) in debts.iter().enumerate() {
+        let row = rule.prorate(*debt, &weight_list(&due));
         write_row(table, from, &row);
         due = less(&due, &row);
     }

@@ -10,12 +10,12 @@ pub enum Refusal {
     Total,
 }
 
-impl Refusal {
-    // The refusal's number, as in docs/REFUSALS.md.
-    pub fn number(&self) -> u8
-        ensures { result ≡ number_of self.now }
-    {
-        match self {
+// The refusal's number, as in docs/REFUSALS.md.
+impl From<Refusal> for u8 {
+    ghost from_gives = { λ refusal n. n ≡ number_of refusal };
+
+    fn from(refusal: Refusal) -> u8 {
+        match refusal {
             Refusal::Short => 10,
             Refusal::Total => 2,
         }
