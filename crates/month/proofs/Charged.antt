@@ -1,5 +1,5 @@
 -- The charges of a pot, and the pots by index.
-use Rattle.std.proofs.Common.{◌≡◌, ℕ, zero, suc, ◌-◌, ◌<◌, ◌≤◌, Bool, true, false, cond, ltb, leb, List, [], ◌∷◌, length, get_or, set, replicate, sum, sym, refl, ap, ◌∙◌, subst, ⊎_elim, arith}
+use Rattle.std.proofs.Common.{sum_by, ◌≡◌, ℕ, zero, suc, ◌-◌, ◌<◌, ◌≤◌, Bool, true, false, cond, ltb, leb, List, [], ◌∷◌, length, get_or, set, replicate, sum, sym, refl, ap, ◌∙◌, subst, ⊎_elim, arith}
 use Rattle.std.proofs.lemmas.Bool.{and_parts, leb-true, cases_eq, cases_lt}
 use Rattle.std.proofs.lemmas.List.{get_or-set_same, get_or-set_other, get_or-replicate, length-replicate, get_or_past}
 use Rattle.tables.proofs.Entries.{getD_all}
@@ -8,6 +8,9 @@ use Rattle.prorating.specs.Weights.{limit}
 use Rattle.prorating.specs.Laws.{is_shared, amount_shared}
 use Rattle.payers.specs.Charges.{Charged}
 use Rattle.tables.specs.Accounts.{Pot, pot_at}
+use Rattle.tables.specs.Entries.{is_numbered, entry}
+use Rattle.month.specs.Figures.{charge_over}
+use Rattle.std.proofs.lemmas.List.FromFn.{fill_by_all}
 
 -- an entry is at most the sum
 entry_sum : (xs : List ℕ) (k : ℕ) → get_or xs k 0 ≤ sum xs
@@ -31,6 +34,21 @@ after_three a b c ps zero l = absurd (omega arith)
 after_three a b c ps (suc zero) l = absurd (omega arith)
 after_three a b c ps (suc (suc zero)) l = absurd (omega arith)
 after_three a b c ps (suc (suc (suc k))) l = ap (pot_at ps) (omega arith)
+
+-- what a company is charged over the rows of some pots
+abbrev pub of_row : ℕ → List ℕ → ℕ
+of_row company row = entry 32 0 row company
+
+pub row_small : (row : List ℕ) (company : ℕ) → ((c : ℕ) → get_or row c 0 ≤ limit) → of_row company row ≤ limit
+row_small row company small = go (is_numbered 32 company)
+  where
+    go : (t : Bool) → cond t (get_or row (company - 1) 0) 0 ≤ limit
+    go true = small (company - 1)
+    go false = omega arith
+
+pub rows_over : (rows : List (List ℕ)) (company : ℕ) → length rows ≡ 19 → sum_by (of_row company) rows ≡ charge_over rows company
+unfolding charge_over
+rows_over rows company long = ap (sum_by (of_row company)) (fill_by_all (λ k. get_or rows k []) rows 19 [] long (λ k h. refl))
 
 -- a table of small rows, with one row more
 pub set_small : (t : List (List ℕ)) (k : ℕ) (row : List ℕ) → k < length t → ((c : ℕ) → get_or row c 0 ≤ limit) → ((p c : ℕ) → get_or (get_or t p []) c 0 ≤ limit) → (p c : ℕ) → get_or (get_or (set t k row) p []) c 0 ≤ limit

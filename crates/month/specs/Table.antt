@@ -1,5 +1,6 @@
 -- The refusal table: for each call its rows in their order, each a test on what was seen so far and the call.
 use Rattle.std.specs.Prelude.{ℕ, ◌+◌, ◌/◌, ◌%◌, Bool, true, false, cond, not, ◌&&◌, ◌||◌, List, [], ◌∷◌, is_some, Some, None, Ok, Err, Option, Result, ◌==◌, nat_eq, nat_le, nat_lt}
+use Rattle.std.specs.List.{list_any}
 use Rattle.prorating.specs.Weights.{limit}
 use Rattle.payers.specs.declared.readings.Reading.{Reading}
 use Rattle.payers.specs.Meters.{figure_limit}
@@ -94,8 +95,7 @@ meter_outside c w i = no_company c || (nat_lt figure_limit w || nat_lt figure_li
 
 -- Readings: whether one is so, and whether a unit stands in two.
 abbrev pub some_reading : (Reading → Bool) → List Reading → Bool
-some_reading test [] = false
-some_reading test (r ∷ rs) = test r || some_reading test rs
+some_reading = list_any
 
 abbrev pub twice : List Reading → Bool
 twice [] = false

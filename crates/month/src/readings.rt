@@ -9,34 +9,26 @@ use payers::readings::Reading;
 pub(crate) fn unit_outside_in(readings: &[Reading]) -> bool
     ensures { result ≡ some_reading (λ q. no_unit q.unit) readings.now }
 {
-    for reading in readings {
-        if outside(1, 255, reading.unit) {
-            return true;
-        }
-    }
-    false
+    readings.iter().any(|reading| outside(1, 255, reading.unit))
 }
 
 // Whether a reading is of this unit.
 fn stands_in(readings: &[Reading], unit: u64) -> bool
     ensures { result ≡ some_reading (λ q. nat_eq q.unit unit) readings.now }
 {
-    for reading in readings {
-        if reading.unit == unit {
-            return true;
-        }
-    }
-    false
+    readings.iter().any(|reading| reading.unit == unit)
 }
 
 // Whether a unit stands in two readings.
 pub(crate) fn twice(readings: &[Reading]) -> bool
     ensures { result ≡ is_twice readings.now }
 {
-    for i in 0..readings.len() {
-        if stands_in(&readings[i + 1..], readings[i].unit) {
+    let mut rest = readings;
+    while let [first, others @ ..] = rest {
+        if stands_in(others, first.unit) {
             return true;
         }
+        rest = others;
     }
     false
 }

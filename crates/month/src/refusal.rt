@@ -1,6 +1,6 @@
 // What a month refuses.
 ghost use Rattle.std.specs.Prelude.{◌≡◌};
-ghost use Rattle.month.specs.Refusals.{number as number_of};
+ghost use Rattle.month.specs.Refusals.{number as number_of, of_payers, of_clearing};
 
 #[derive(Clone, Copy, Debug, PartialEq)]
 pub enum Refusal {
@@ -26,12 +26,12 @@ pub enum Refusal {
     Short,
 }
 
-impl Refusal {
-    // The refusal's number, as in docs/REFUSALS.md.
-    pub fn number(&self) -> u8
-        ensures { result ≡ number_of self.now }
-    {
-        match self {
+// The refusal's number, as in docs/REFUSALS.md.
+impl From<Refusal> for u8 {
+    ghost from_gives = { λ refusal n. n ≡ number_of refusal };
+
+    fn from(refusal: Refusal) -> u8 {
+        match refusal {
             Refusal::Stage => 1,
             Refusal::Limits => 2,
             Refusal::Unregistered => 3,
@@ -42,6 +42,30 @@ impl Refusal {
             Refusal::Credits => 8,
             Refusal::NoWeight => 9,
             Refusal::Short => 10,
+        }
+    }
+}
+
+// What the payer bases refuse, as the month says it.
+impl From<payers::refusal::Refusal> for Refusal {
+    ghost from_gives = { λ refusal r. r ≡ of_payers refusal };
+
+    fn from(refusal: payers::refusal::Refusal) -> Refusal {
+        match refusal {
+            payers::refusal::Refusal::Limits => Refusal::Limits,
+            payers::refusal::Refusal::Barred => Refusal::Barred,
+        }
+    }
+}
+
+// What the payment table refuses, as the month says it.
+impl From<clearing::refusal::Refusal> for Refusal {
+    ghost from_gives = { λ refusal r. r ≡ of_clearing refusal };
+
+    fn from(refusal: clearing::refusal::Refusal) -> Refusal {
+        match refusal {
+            clearing::refusal::Refusal::Short => Refusal::Short,
+            clearing::refusal::Refusal::Total => Refusal::Limits,
         }
     }
 }

@@ -1,24 +1,26 @@
 // What a settled or final month answers.
-ghost use Rattle.std.specs.Prelude.{◌≡◌, ◌*◌, ◌≤◌, true, false, MatchOption};
+ghost use Rattle.std.specs.Prelude.{◌≡◌, ◌*◌, ◌≤◌, true, false, MatchResult};
 ghost use Rattle.prorating.specs.Weights.{limit};
 ghost use Rattle.payers.specs.Replacements.{part_moved, weight_moved};
 ghost use Rattle.month.specs.Answers.{is_charged, figures_answer, charge_answer, answer_if_any, outcome_answer};
 ghost use Rattle.month.specs.Book.{book};
+ghost use Rattle.month.specs.declared.refusal.Refusal.TheVariants.{Stage as StageRefusal};
 
 use super::{Charges, Month, Stage};
 use crate::figures::{Figures, Outcome};
 use crate::limits::outside;
 use crate::refusal::Refusal;
 use payers::base::COMPANIES;
+use std::array;
 
 impl Month {
-    // The charges, where there are any.
-    pub(super) fn charges(&self) -> Option<Charges>
-        ensures { MatchOption result (is_charged (book self.now).phase ≡ false) (λ c. (is_charged (book self.now).phase ≡ true) × (c.of_pots ≡ (book self.now).charges)) }
+    // The charges of a settled or final month.
+    pub(super) fn charges(&self) -> Result<Charges, Refusal>
+        ensures { MatchResult result (λ c. (is_charged (book self.now).phase ≡ true) × (c.of_pots ≡ (book self.now).charges)) (λ e. (is_charged (book self.now).phase ≡ false) × (e ≡ StageRefusal)) }
     {
         match self.stage {
-            Stage::Settled(charges) | Stage::Final(charges) => Some(charges),
-            _ => None,
+            Stage::Settled(charges) | Stage::Final(charges) => Ok(charges),
+            _ => Err(Refusal::Stage),
         }
     }
 
@@ -50,9 +52,7 @@ impl Month {
     pub fn figures(&self, company: u64) -> Result<Figures, Refusal>
         ensures { result ≡ figures_answer (book self.now) company }
     {
-        let Some(charges) = self.charges() else {
-            return Err(Refusal::Stage);
-        };
+        let charges = self.charges()?;
         if outside(1, 32, company) {
             return Err(Refusal::Limits);
         }
@@ -66,9 +66,7 @@ impl Month {
     pub fn charge(&self, company: u64, pot: u64) -> Result<u64, Refusal>
         ensures { result ≡ charge_answer (book self.now) company pot }
     {
-        let Some(charges) = self.charges() else {
-            return Err(Refusal::Stage);
-        };
+        let charges = self.charges()?;
         if outside(1, 32, company) || outside(1, 19, pot) {
             return Err(Refusal::Limits);
         }
@@ -82,23 +80,15 @@ impl Month {
     fn figures_if_registered(&self, company: u64) -> Option<Figures>
         ensures { result ≡ answer_if_any (figures_answer (book self.now) company) }
     {
-        match self.figures(company) {
-            Ok(figures) => Some(figures),
-            Err(_) => None,
-        }
+        self.figures(company).ok()
     }
 
     // The figures of all companies and the charges of all pots.
     pub fn outcome(&self) -> Result<Outcome, Refusal>
         ensures { result ≡ outcome_answer (book self.now) }
     {
-        let Some(charges) = self.charges() else {
-            return Err(Refusal::Stage);
-        };
-        let mut figures = [None; COMPANIES];
-        for k in 0..COMPANIES {
-            figures[k] = self.figures_if_registered(k as u64 + 1);
-        }
+        let charges = self.charges()?;
+        let figures = array::from_fn(|k| self.figures_if_registered(k as u64 + 1));
         let charges = charges.of_pots;
         Ok(Outcome { figures, charges })
     }

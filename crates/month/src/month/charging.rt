@@ -9,6 +9,7 @@ ghost use Rattle.month.specs.Pots.{pot_charges, charged as charged_by};
 ghost use Rattle.month.specs.Steps.{all_pots};
 
 use super::{Charges, Month, POTS};
+use numbered::{entry_of, index_of};
 use payers::base::{COMPANIES, PayerBase};
 use payers::charging::charges;
 use payers::replacement::Replacement;
@@ -20,10 +21,10 @@ impl Charges {
         ensures is { result ≡ charge_at self.now.of_pots company pot }
         ensures small { result ≤ limit }
     {
-        if company < 1 || company > 32 || pot < 1 || pot > 19 {
-            return 0;
+        match index_of(pot, POTS) {
+            Some(index) => entry_of(&self.of_pots[index], company, 0),
+            None => 0,
         }
-        self.of_pots[pot as usize - 1][company as usize - 1]
     }
 
     // What a company is charged over all pots.
@@ -32,8 +33,8 @@ impl Charges {
         ensures small { result ≤ 19 * limit }
     {
         let mut cents = 0;
-        for k in 0..POTS {
-            cents += self.of(company, k as u64 + 1);
+        for charges in &self.of_pots {
+            cents += entry_of(charges, company, 0);
         }
         cents
     }
@@ -74,8 +75,8 @@ impl Month {
         ensures { result.of_pots ≡ charged_by (R.Rule.shares rule.now) (book self.now).participants (all_pots (book self.now)) }
     {
         let mut of_pots = [[0; COMPANIES]; POTS];
-        for k in 0..POTS {
-            of_pots[k] = self.pot_charges(k, rule);
+        for (k, charges) in of_pots.iter_mut().enumerate() {
+            *charges = self.pot_charges(k, rule);
         }
         Charges { of_pots }
     }

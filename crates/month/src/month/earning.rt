@@ -18,15 +18,11 @@ impl Month {
         ensures answer { result ≡ post_answer (book self.old) (a_line unit hour family line) }
         ensures after { book self.new ≡ post_after (book self.old) (a_line unit hour family line) }
     {
-        if !self.is_open() {
-            return Err(Refusal::Stage);
-        }
+        self.takes_posts()?;
         if line_outside(&self.terms, unit, hour, family, &line) {
             return Err(Refusal::Limits);
         }
-        let Some(place) = self.units.place(unit) else {
-            return Err(Refusal::Unregistered);
-        };
+        let place = self.units.place(unit).ok_or(Refusal::Unregistered)?;
         if self.units.is_given(unit, hour, &line) {
             return Err(Refusal::Again);
         }
@@ -53,15 +49,11 @@ impl Month {
         ensures answer { result ≡ post_answer (book self.old) (an_installation unit family annuity maintenance) }
         ensures after { book self.new ≡ post_after (book self.old) (an_installation unit family annuity maintenance) }
     {
-        if !self.is_open() {
-            return Err(Refusal::Stage);
-        }
+        self.takes_posts()?;
         if installation_outside(unit, family, annuity, maintenance) {
             return Err(Refusal::Limits);
         }
-        let Some(place) = self.units.place(unit) else {
-            return Err(Refusal::Unregistered);
-        };
+        let place = self.units.place(unit).ok_or(Refusal::Unregistered)?;
         if self.units.is_installed(unit, family) {
             return Err(Refusal::Again);
         }
@@ -94,15 +86,15 @@ impl Month {
         ensures answer { result ≡ post_answer (book self.old) (a_shed point kw seconds zone readings.now) }
         ensures after { book self.new ≡ post_after (book self.old) (a_shed point kw seconds zone readings.now) }
     {
-        if !self.is_open() {
-            return Err(Refusal::Stage);
-        }
+        self.takes_posts()?;
         if shed_outside(point, kw, seconds, zone, readings) {
             return Err(Refusal::Limits);
         }
-        let Some(supplier) = self.points.point(point).supplier else {
-            return Err(Refusal::Unregistered);
-        };
+        let supplier = self
+            .points
+            .point(point)
+            .supplier
+            .ok_or(Refusal::Unregistered)?;
         if self.is_unknown_in(readings) {
             return Err(Refusal::Unregistered);
         }

@@ -7,9 +7,10 @@ ghost use Rattle.month.specs.Figures.{charge_over};
 
 use super::{Charges, Month};
 use crate::refusal::Refusal;
-use clearing::payments::{ENTRIES, pay};
+use clearing::payments::pay;
 use payers::base::COMPANIES;
 use prorating::rule::Rule;
+use std::array;
 
 // What each company owes, and what is due to each.
 #[derive(Clone, Copy)]
@@ -19,20 +20,29 @@ pub struct Balances {
 }
 
 impl Month {
+    // By how much a company's charge is above its credit.
+    fn debt(&self, charges: &Charges, company: u64) -> u64
+        ensures { result ≡ charge_over charges.now.of_pots company - credit_in (book self.now) company }
+    {
+        charges.over(company).saturating_sub(self.credit(company))
+    }
+
+    // By how much its credit is above its charge.
+    fn due(&self, charges: &Charges, company: u64) -> u64
+        ensures { result ≡ credit_in (book self.now) company - charge_over charges.now.of_pots company }
+    {
+        self.credit(company).saturating_sub(charges.over(company))
+    }
+
     // By these charges: a company owes by how much its charge is above its credit, and is due by how much its credit is above its charge.
     fn balances(&self, charges: &Charges) -> Balances
         ensures debts { result.debts ≡ by_company (λ c. charge_over charges.now.of_pots c - credit_in (book self.now) c) }
         ensures dues { result.dues ≡ by_company (λ c. credit_in (book self.now) c - charge_over charges.now.of_pots c) }
     {
-        let mut debts = [0; COMPANIES];
-        let mut dues = [0; COMPANIES];
-        for k in 0..COMPANIES {
-            let credit = self.credit(k as u64 + 1);
-            let charge = charges.over(k as u64 + 1);
-            debts[k] = charge.saturating_sub(credit);
-            dues[k] = credit.saturating_sub(charge);
+        Balances {
+            debts: array::from_fn(|k| self.debt(charges, k as u64 + 1)),
+            dues: array::from_fn(|k| self.due(charges, k as u64 + 1)),
         }
-        Balances { debts, dues }
     }
 
     // Writes who pays whom into the first 1,024 entries of a table, each debt spread by the rule.
@@ -40,16 +50,8 @@ impl Month {
         ensures answer { result ≡ payments_answer (book self.now) table.old }
         ensures after { table.new ≡ payments_after (R.Rule.shares rule.now) (book self.now) table.old }
     {
-        let Some(charges) = self.charges() else {
-            return Err(Refusal::Stage);
-        };
-        if table.len() < ENTRIES {
-            return Err(Refusal::Short);
-        }
+        let charges = self.charges()?;
         let balances = self.balances(&charges);
-        match pay(&balances.debts, &balances.dues, rule, table) {
-            Ok(()) => Ok(()),
-            Err(_) => unreachable(),
-        }
+        Ok(pay(&balances.debts, &balances.dues, rule, table)?)
     }
 }

@@ -1,8 +1,9 @@
 // The posts, one by one: each is judged row by row, and then entered.
-ghost use Rattle.std.specs.Prelude.{◌≡◌};
+ghost use Rattle.std.specs.Prelude.{◌≡◌, if◌then◌else◌, Ok, Err};
 ghost use Rattle.month.specs.Meant.{company as a_company, replace as a_replace, unit as a_unit, performance as a_performance, meter as a_meter, point as a_point};
 ghost use Rattle.month.specs.Table.{is_begun};
 ghost use Rattle.month.specs.Book.{book};
+ghost use Rattle.month.specs.declared.refusal.Refusal.TheVariants.{Stage as StageRefusal};
 ghost use Rattle.month.specs.Steps.{post_answer, post_after};
 
 use super::{Month, Stage};
@@ -11,13 +12,13 @@ use crate::refusal::Refusal;
 use worth::Performance;
 
 impl Month {
-    // Whether the month takes posts.
-    pub(super) fn is_open(&self) -> bool
-        ensures { result ≡ is_begun (book self.now).phase }
+    // Refuses where the month takes no posts.
+    pub(super) fn takes_posts(&self) -> Result<(), Refusal>
+        ensures { result ≡ (if is_begun (book self.now).phase then Ok tt else Err StageRefusal) }
     {
         match self.stage {
-            Stage::Open => true,
-            _ => false,
+            Stage::Open => Ok(()),
+            _ => Err(Refusal::Stage),
         }
     }
 
@@ -26,9 +27,7 @@ impl Month {
         ensures answer { result ≡ post_answer (book self.old) (a_company number) }
         ensures after { book self.new ≡ post_after (book self.old) (a_company number) }
     {
-        if !self.is_open() {
-            return Err(Refusal::Stage);
-        }
+        self.takes_posts()?;
         if outside(1, 32, number) {
             return Err(Refusal::Limits);
         }
@@ -44,16 +43,14 @@ impl Month {
         ensures answer { result ≡ post_answer (book self.old) (a_unit number owner zone) }
         ensures after { book self.new ≡ post_after (book self.old) (a_unit number owner zone) }
     {
-        if !self.is_open() {
-            return Err(Refusal::Stage);
-        }
+        self.takes_posts()?;
         if unit_outside(number, owner, zone) {
             return Err(Refusal::Limits);
         }
         if !self.registered.has(owner) {
             return Err(Refusal::Unregistered);
         }
-        if let Some(_) = self.units.place(number) {
+        if self.units.place(number).is_some() {
             return Err(Refusal::Again);
         }
         if self.units.is_full() {
@@ -68,19 +65,14 @@ impl Month {
         ensures answer { result ≡ post_answer (book self.old) (a_replace old new) }
         ensures after { book self.new ≡ post_after (book self.old) (a_replace old new) }
     {
-        if !self.is_open() {
-            return Err(Refusal::Stage);
-        }
+        self.takes_posts()?;
         if outside(1, 32, old) || outside(1, 32, new) {
             return Err(Refusal::Limits);
         }
         if !(self.registered.has(old) && self.registered.has(new)) {
             return Err(Refusal::Unregistered);
         }
-        match self.replacements.replace(old, new) {
-            Ok(()) => Ok(()),
-            Err(_) => Err(Refusal::Barred),
-        }
+        Ok(self.replacements.replace(old, new)?)
     }
 
     // Posts a unit's performance in a family.
@@ -93,16 +85,14 @@ impl Month {
         ensures answer { result ≡ post_answer (book self.old) (a_performance unit family performance) }
         ensures after { book self.new ≡ post_after (book self.old) (a_performance unit family performance) }
     {
-        if !self.is_open() {
-            return Err(Refusal::Stage);
-        }
+        self.takes_posts()?;
         if performance_outside(&self.terms, unit, family, &performance) {
             return Err(Refusal::Limits);
         }
-        let Some(_) = self.units.place(unit) else {
+        if self.units.place(unit).is_none() {
             return Err(Refusal::Unregistered);
-        };
-        if let Some(_) = self.units.performance(unit, family) {
+        }
+        if self.units.performance(unit, family).is_some() {
             return Err(Refusal::Again);
         }
         self.units.perform(unit, family, performance);
@@ -114,9 +104,7 @@ impl Month {
         ensures answer { result ≡ post_answer (book self.old) (a_meter company withdrawals injections) }
         ensures after { book self.new ≡ post_after (book self.old) (a_meter company withdrawals injections) }
     {
-        if !self.is_open() {
-            return Err(Refusal::Stage);
-        }
+        self.takes_posts()?;
         if meter_outside(company, withdrawals, injections) {
             return Err(Refusal::Limits);
         }
@@ -127,10 +115,7 @@ impl Month {
             return Err(Refusal::Again);
         }
         self.metered.put(company);
-        match self.meters.put(company, withdrawals, injections) {
-            Ok(()) => Ok(()),
-            Err(_) => Err(Refusal::Limits),
-        }
+        Ok(self.meters.put(company, withdrawals, injections)?)
     }
 
     // Registers a point of withdrawal and its supplier.
@@ -138,16 +123,14 @@ impl Month {
         ensures answer { result ≡ post_answer (book self.old) (a_point number supplier) }
         ensures after { book self.new ≡ post_after (book self.old) (a_point number supplier) }
     {
-        if !self.is_open() {
-            return Err(Refusal::Stage);
-        }
+        self.takes_posts()?;
         if outside(1, 32, number) || outside(1, 32, supplier) {
             return Err(Refusal::Limits);
         }
         if !self.registered.has(supplier) {
             return Err(Refusal::Unregistered);
         }
-        if let Some(_) = self.points.point(number).supplier {
+        if self.points.point(number).supplier.is_some() {
             return Err(Refusal::Again);
         }
         self.points.supply(number, supplier);

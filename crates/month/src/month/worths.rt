@@ -25,10 +25,10 @@ impl Month {
         let Some(service) = Family::numbered(family) else {
             return 0;
         };
-        match self.units.performance(unit, family) {
-            Some(performance) => performance.factor(self.terms.hours, service),
-            None => 0,
-        }
+        self.units.performance(unit, family).map_or(
+            0,
+            |performance| performance.factor(self.terms.hours, service),
+        )
     }
 
     // Whether a line needs a performance of its unit and family that is not given.
@@ -38,10 +38,7 @@ impl Month {
         if !line.needs_performance() {
             return false;
         }
-        match self.units.performance(unit, family) {
-            Some(_) => false,
-            None => true,
-        }
+        self.units.performance(unit, family).is_none()
     }
 
     // What a line is worth, whose figures are within their limits.
@@ -49,10 +46,7 @@ impl Month {
         requires { line_within line.now ≡ true }
         ensures { result ≡ line_worth (shown (book self.now)) unit family line.now }
     {
-        match line.worth(self.factor(unit, family)) {
-            Some(cents) => cents,
-            None => unreachable(),
-        }
+        line.worth(self.factor(unit, family)).unwrap()
     }
 
     // What a shedding is worth, whose figures are within their limits: nothing where it is unpaid.
@@ -89,12 +83,8 @@ impl Month {
     pub(super) fn is_unknown_in(&self, readings: &[Reading]) -> bool
         ensures { result ≡ some_reading (λ q. not (is_some ((shown (book self.now)).place q.unit))) readings.now }
     {
-        for reading in readings {
-            let None = self.units.place(reading.unit) else {
-                continue;
-            };
-            return true;
-        }
-        false
+        readings
+            .iter()
+            .any(|reading| self.units.place(reading.unit).is_none())
     }
 }

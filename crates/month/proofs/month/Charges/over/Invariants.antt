@@ -1,9 +1,8 @@
-use Rattle.std.proofs.Common.{◌≡◌, ◌*◌, ◌≤◌, sum_by}
-use Rattle.std.specs.List.{range_with_len}
+use Rattle.std.proofs.Common.{◌≡◌, ◌*◌, ◌≤◌, sum_by, take}
 use Rattle.prorating.specs.Weights.{limit}
-use Rattle.month.specs.Figures.{charge_at}
+use Rattle.month.proofs.Charged.{of_row}
 use Rattle.month.proofs.month.Charges.over.Given as goal
 
 -- the pots so far
-abbrev pub invariant-loop-k : goal.invariant-loop-k
-invariant-loop-k l = (l.cents ≡ sum_by (charge_at l.self.of_pots l.company) (range_with_len 1 l.k)) × (l.cents ≤ l.k * limit)
+abbrev pub invariant-loop-charges : goal.invariant-loop-charges
+invariant-loop-charges l = (l.cents ≡ sum_by (of_row l.company) (take l.charges-index l.self.of_pots)) × (l.cents ≤ l.charges-index * limit)

@@ -13,11 +13,11 @@ loop-k-init g c = (refl, λ j l. absurd (omega arith), zeros_small)
 
 pub loop-k-preserved : goal.loop-k-preserved
 loop-k-preserved g c =
-    let inside : c.loop-k.k < length c.loop-k.of_pots = omega (arith, c.loop-k.invariant.0) in
+    let inside : c.loop-k.k < length c.loop-k.charges-items = omega (arith, c.loop-k.invariant.0) in
     let row : ℕ → List ℕ = pot_charges (g.R.Rule.shares c.args.rule.now) (book c.args.self.now).participants (all_pots (book c.args.self.now)) in (
-      length-set c.loop-k.of_pots c.loop-k.k _ ∙ c.loop-k.invariant.0,
-      λ j l. ap (λ r. get_or (set c.loop-k.of_pots c.loop-k.k r) j []) c.pot_charges.ensures.meant ∙ fill_by_more row c.loop-k.of_pots c.loop-k.k [] inside c.loop-k.invariant.1 j l,
-      set_small c.loop-k.of_pots c.loop-k.k _ inside c.pot_charges.ensures.small c.loop-k.invariant.2,
+      length-set c.loop-k.charges-items c.loop-k.k _ ∙ c.loop-k.invariant.0,
+      λ j l. ap (λ r. get_or (set c.loop-k.charges-items c.loop-k.k r) j []) c.pot_charges.ensures.meant ∙ fill_by_more row c.loop-k.charges-items c.loop-k.k [] inside c.loop-k.invariant.1 j l,
+      set_small c.loop-k.charges-items c.loop-k.k _ inside c.pot_charges.ensures.small c.loop-k.invariant.2,
     )
 
 pub invariant_of-result : goal.invariant_of-result
@@ -27,4 +27,4 @@ pub returns : goal.returns
 unfolding charged
 returns g c =
     let row : ℕ → List ℕ = pot_charges (g.R.Rule.shares c.args.rule.now) (book c.args.self.now).participants (all_pots (book c.args.self.now)) in
-    fill_by_all row c.loop-k.of_pots 19 [] c.loop-k.invariant.0 (λ j l. c.loop-k.invariant.1 j (omega arith))
+    fill_by_all row c.loop-k.charges-items 19 [] c.loop-k.invariant.0 (λ j l. c.loop-k.invariant.1 j (omega arith))

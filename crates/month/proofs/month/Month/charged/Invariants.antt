@@ -7,6 +7,6 @@ use Rattle.month.proofs.month.Month.charged.Given as goal
 
 abbrev pub invariant-loop-k : goal.invariant-loop-k
 invariant-loop-k g l =
-    (length l.of_pots ≡ 19)
-    × ((j : ℕ) → j < l.k → get_or l.of_pots j [] ≡ pot_charges (g.R.Rule.shares l.rule) (book l.self).participants (all_pots (book l.self)) j)
-    × ((p c : ℕ) → get_or (get_or l.of_pots p []) c 0 ≤ limit)
+    (length l.charges-items ≡ 19)
+    × ((j : ℕ) → j < l.k → get_or l.charges-items j [] ≡ pot_charges (g.R.Rule.shares l.rule) (book l.self).participants (all_pots (book l.self)) j)
+    × ((p c : ℕ) → get_or (get_or l.charges-items p []) c 0 ≤ limit)
