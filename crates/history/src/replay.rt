@@ -16,10 +16,7 @@ use std::convert::AsSlice;
 fn answer_number(answer: Result<(), Refusal>) -> u8
     ensures { result ≡ answer_number_of answer }
 {
-    match answer {
-        Ok(()) => 0,
-        Err(refusal) => refusal.number(),
-    }
+    answer.map_or_else(u8::from, |()| 0)
 }
 
 // Makes the calls one after the other on a blank month and notes the number of each answer; then asks for the payments by a rule, and for the figures
@@ -42,8 +39,6 @@ pub fn replay<T: AsSlice<Reading>, R: Rule, P: Rule>(
     for (i, call) in calls.iter().enumerate() {
         answers[i] = answer_number(month.apply(call));
     }
-    match month.payments(rule, table) {
-        Ok(()) => month.outcome(),
-        Err(refusal) => Err(refusal),
-    }
+    month.payments(rule, table)?;
+    month.outcome()
 }

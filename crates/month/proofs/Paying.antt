@@ -21,7 +21,7 @@ use Rattle.month.specs.Steps.{on_ok}
 use Rattle.month.specs.Table.{Answer}
 
 -- what is due is no more than what is credited
-dues_light : (ps earned : List ℕ) (charge : ℕ → ℕ) → ((k : ℕ) → k < 32 → TakesPart ps k) → length earned ≡ 32 → sum (by_company (λ c. weight_moved ps earned c - charge c)) ≤ sum earned
+pub dues_light : (ps earned : List ℕ) (charge : ℕ → ℕ) → ((k : ℕ) → k < 32 → TakesPart ps k) → length earned ≡ 32 → sum (by_company (λ c. weight_moved ps earned c - charge c)) ≤ sum earned
 dues_light ps earned charge each long =
     let due : ℕ → ℕ = λ c. weight_moved ps earned c - charge c in
     let credit : ℕ → ℕ = weight_moved ps earned in

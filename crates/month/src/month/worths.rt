@@ -62,10 +62,7 @@ impl Month {
         if !paid(before.count + 1, before.seconds + seconds, limits) {
             return 0;
         }
-        match shedding_worth(self.terms.failure_cost, kw, seconds) {
-            Some(cents) => cents,
-            None => unreachable(),
-        }
+        shedding_worth(self.terms.failure_cost, kw, seconds).unwrap()
     }
 
     // Who was injecting in a zone, by readings that a shedding may bring.
@@ -73,10 +70,7 @@ impl Month {
         requires { are_readings readings.now ≡ true }
         ensures { result.kwh ≡ shed_weights (shown (book self.now)) zone readings.now }
     {
-        match ZoneHour::of(readings, &self.units, zone) {
-            Some(hour) => hour,
-            None => unreachable(),
-        }
+        ZoneHour::of(readings, &self.units, zone).unwrap()
     }
 
     // Whether a reading is of a unit that is not registered.

@@ -1,4 +1,5 @@
-use Rattle.std.proofs.Common.{Err, arith}
+use Rattle.std.proofs.Common.{Err, sym, ap, ◌∙◌, arith}
+use Rattle.std.proofs.lemmas.Result.{err_from_is_err_and}
 use Rattle.prorating.specs.Laws.{Keeps}
 use Rattle.payers.specs.Figures.{column_based}
 use Rattle.tables.proofs.Pots.{pots_based, pots_long}
@@ -59,20 +60,22 @@ pub loop-i-preserved : goal.loop-i-preserved
 loop-i-preserved g c =
     goes_on g.T.AsSlice.items g.R.Rule.shares _ _ _ _ c.index-calls-i.result _ _ _ _ c.loop-i-test.true c.if-answers-calls.false c.index-calls-i.is c.answer_number.ensures c.apply.ensures.answer c.apply.ensures.after (sound c.loop-i.month) c.loop-i.invariant
 
-pub returns-in-Ok : goal.returns-in-Ok
-returns-in-Ok g c =
+pub returns : goal.returns
+returns g c =
     told_so g.T.AsSlice.items g.R.Rule.shares (keeps g) (g.P.Rule.shares c.args.rule.now) (kept g c.args.rule.now) c.args.calls.now c.args.answers.now c.args.table.now
     c.loop-i.answers c.loop-i.i (book c.loop-i.month) c.if-answers-calls.false c.if-table-lt-ENTRIES.false c.loop-i-test.false (omega arith) (sound c.loop-i.month) c.loop-i.invariant
     c.payments.new.table c.outcome.result c.outcome.ensures c.payments.ensures.after
 
-pub returns-in-Err : goal.returns-in-Err
-returns-in-Err g c =
+pub returns-in_err-payments : goal.returns-in_err-payments
+returns-in_err-payments g c =
+    let items = g.T.AsSlice.items in
     let share = g.R.Rule.shares in
     let by = g.P.Rule.shares c.args.rule.now in
+    let p = err_from_is_err_and c.from_residual.result c.from_residual.ensures.1 in
     let refusal =
-    stage_refused g.T.AsSlice.items share (keeps g) by (kept g c.args.rule.now) c.args.calls.now c.args.answers.now c.args.table.now
+    stage_refused items share (keeps g) by (kept g c.args.rule.now) c.args.calls.now c.args.answers.now c.args.table.now
     c.loop-i.answers c.loop-i.i (book c.loop-i.month) c.if-answers-calls.false c.if-table-lt-ENTRIES.false c.loop-i-test.false (omega arith) (sound c.loop-i.month) c.loop-i.invariant
-    c.in-Err.refusal c.in-Err.ensures.answer in
-    told_so g.T.AsSlice.items share (keeps g) by (kept g c.args.rule.now) c.args.calls.now c.args.answers.now c.args.table.now
+    c.in_err-payments.field-0.0 (sym c.in_err-payments.was ∙ c.payments.ensures.answer) in
+    told_so items share (keeps g) by (kept g c.args.rule.now) c.args.calls.now c.args.answers.now c.args.table.now
     c.loop-i.answers c.loop-i.i (book c.loop-i.month) c.if-answers-calls.false c.if-table-lt-ENTRIES.false c.loop-i-test.false (omega arith) (sound c.loop-i.month) c.loop-i.invariant
-    c.payments.new.table (Err c.in-Err.refusal) refusal c.payments.ensures.after
+    c.payments.new.table c.from_residual.result (p.1 ∙ ap Err p.2 ∙ refusal) c.payments.ensures.after
