@@ -3,7 +3,7 @@
 ghost use Rattle.std.specs.Prelude.{◌≡◌, ◌*◌, ◌≤◌, true};
 ghost use Rattle.worth.specs.Laws.{Laws, NeverBoth};
 ghost use Rattle.worth.specs.Limits.{within as line_within};
-ghost use Rattle.worth.specs.Lines.{formula as formula_of, excess as excess_of, answer};
+ghost use Rattle.worth.specs.Lines.{formula as formula_of, answer};
 ghost use Rattle.worth.specs.Performances.{whole};
 
 use crate::limits::HOUR;
@@ -26,11 +26,7 @@ impl Line {
         ensures never_both { NeverBoth }
     {
         prove_laws(self, factor);
-        if self.within_limits() && factor <= WHOLE {
-            Some(self.formula(factor).rounded_down())
-        } else {
-            None
-        }
+        (self.within_limits() && factor <= WHOLE).then(|| self.formula(factor).rounded_down())
     }
 
     // The formula of the line's kind, before rounding.
@@ -63,7 +59,7 @@ impl Line {
                 marginal_cost,
                 energy,
             } => {
-                let loss = excess(variable_cost, marginal_cost);
+                let loss = variable_cost.saturating_sub(marginal_cost);
                 over(charge(loss, energy), KILO)
             }
             Line::Opportunity {
@@ -72,7 +68,7 @@ impl Line {
                 full_load_energy,
                 energy,
             } => {
-                let gain = excess(marginal_cost, variable_cost);
+                let gain = marginal_cost.saturating_sub(variable_cost);
                 let forgone = charge(gain, full_load_energy - energy);
                 over(forgone * factor, KILO * WHOLE)
             }
@@ -82,7 +78,7 @@ impl Line {
                 full_load_consumption,
                 energy,
             } => {
-                let extra = excess(dispatched_consumption, full_load_consumption);
+                let extra = dispatched_consumption.saturating_sub(full_load_consumption);
                 over(charge(fuel_price, extra) * energy, THOUSANDTHS * KILO)
             }
             Line::ExtraResource {
@@ -91,7 +87,7 @@ impl Line {
                 full_load_efficiency,
                 energy,
             } => {
-                let lost = excess(full_load_efficiency, dispatched_efficiency);
+                let lost = full_load_efficiency.saturating_sub(dispatched_efficiency);
                 over(
                     charge(operation_price, lost) * energy,
                     dispatched_efficiency * KILO,
@@ -114,13 +110,6 @@ fn prove_laws(line: &Line, factor: u64)
     ensures laws { Laws line.now factor }
     ensures never_both { NeverBoth }
 {}
-
-// How far a is above b, 0 where it is not: max(a − b, 0).
-fn excess(a: u64, b: u64) -> u64
-    ensures { result ≡ excess_of a b }
-{
-    a.saturating_sub(b)
-}
 
 // What a reserve costs for an hour times the seconds for which it was instructed.
 fn instructed(charge: u64, seconds: u64) -> u64

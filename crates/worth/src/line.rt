@@ -81,12 +81,14 @@ impl Line {
     pub fn allows(&self, family: Family) -> bool
         ensures { result ≡ allows_of self.now family }
     {
-        match (self, family) {
-            (Line::UpwardAvailability { .. }, Family::Voltage) => false,
-            (Line::UpwardActivation { .. }, Family::Voltage) => false,
-            (Line::Downward { .. }, Family::Voltage) => false,
-            (Line::ExtraWithdrawal { .. }, Family::Frequency) => false,
-            _ => true,
+        match family {
+            Family::Frequency => !matches!(self, Line::ExtraWithdrawal { .. }),
+            Family::Voltage => !matches!(
+                self,
+                Line::UpwardAvailability { .. }
+                    | Line::UpwardActivation { .. }
+                    | Line::Downward { .. }
+            ),
         }
     }
 
@@ -94,10 +96,9 @@ impl Line {
     pub fn needs_performance(&self) -> bool
         ensures { result ≡ needs_performance self.now }
     {
-        match self {
-            Line::UpwardAvailability { .. } | Line::Downward { .. } | Line::Opportunity { .. } =>
-                true,
-            _ => false,
-        }
+        matches!(
+            self,
+            Line::UpwardAvailability { .. } | Line::Downward { .. } | Line::Opportunity { .. }
+        )
     }
 }
