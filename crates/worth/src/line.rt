@@ -62,6 +62,7 @@ pub enum Line {
 
 impl Line {
     // The number of the line's kind, 1 to 8.
+    // Kept: a method, since `u64::from(line)` would not say which number of a line is meant.
     pub fn kind(&self) -> u64
         ensures { result ≡ kind_of self.now }
     {

@@ -4,7 +4,7 @@ ghost use Rattle.std.specs.Prelude.{◌≡◌};
 ghost use Rattle.worth.specs.Sheddings.{paid, within as shedding_within, answer};
 
 use crate::limits::HOUR;
-use crate::quotient::{charge, over};
+use crate::quotient::over;
 
 // The highest failure cost, in cents for a kWh that is not served.
 pub const HIGHEST_FAILURE_COST: u64 = 10_000;
@@ -54,9 +54,7 @@ impl Shedding {
     pub fn worth(&self, failure_cost: u64) -> Option<u64>
         ensures { result ≡ answer failure_cost self.now.kw self.now.seconds }
     {
-        (failure_cost <= HIGHEST_FAILURE_COST && self.within_limits()).then(|| over(
-            charge(failure_cost, self.kw) * self.seconds,
-            HOUR,
-        ).rounded_down())
+        let within_limits = failure_cost <= HIGHEST_FAILURE_COST && self.within_limits();
+        within_limits.then(|| over(failure_cost * self.kw * self.seconds, HOUR).rounded_down())
     }
 }
