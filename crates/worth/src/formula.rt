@@ -20,12 +20,12 @@ const THOUSANDTHS: u64 = 1_000;
 impl Line {
     // What the line is worth in cents, rounded down once, with a performance factor in ten-thousandths.
     // No answer where a figure or the factor is outside its limits.
+    #[tactic(auto, using(crate::proofs::Lawful::laws, crate::proofs::Lawful::never_both))]
     pub fn worth(&self, factor: u64) -> Option<u64>
         ensures value { result ≡ answer self.now factor }
         ensures laws { Laws self.now factor }
         ensures never_both { NeverBoth }
     {
-        prove_laws(self, factor);
         (self.within_limits() && factor <= WHOLE).then(|| self.formula(factor).rounded_down())
     }
 
@@ -96,9 +96,3 @@ impl Line {
         }
     }
 }
-
-// A lemma: it does nothing, and `Line::worth` calls it for what it is proved to promise.
-fn prove_laws(line: &Line, factor: u64)
-    ensures laws { Laws line.now factor }
-    ensures never_both { NeverBoth }
-{}
