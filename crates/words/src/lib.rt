@@ -11,7 +11,11 @@ ghost use Rattle.words.specs.Words.{number_form, number_of, split, pieces};
 fn has_number_form(field: &[u8]) -> bool
     ensures { result ≡ number_form field.now }
 {
-    field.len() == 1 || (field.len() > 1 && field.len() <= 11 && field[0] != b'0')
+    match field {
+        [] => false,
+        [_] => true,
+        [first, ..] => *first != b'0' && field.len() <= 11,
+    }
 }
 
 // Whether each byte of a field is a digit.

@@ -1,6 +1,5 @@
 -- The text is cut at its first mark, or is one piece.
-use Rattle.std.proofs.Common.{◌≡◌, None, sym, ◌∙◌}
-use native.Mathlib.Nat.{sub-zero}
+use Rattle.std.proofs.Common.{sym, ◌∙◌}
 use Rattle.std.proofs.lemmas.List.{take_rest}
 use Rattle.words.proofs.Pieces.{split_at_position, split_no_position}
 use Rattle.words.proofs.cut.Goals as goal
