@@ -2,7 +2,7 @@
 use Rattle.std.proofs.Common.{◌≡◌, ℕ, zero, suc, ◌+◌, ◌<◌, ◌≤◌, ltb, Bool, true, false, cond, eqb, List, [], ◌∷◌, ◌++◌, length, get_or, take, drop, Some, None, sym, refl, ap, ◌∙◌, add-one, arith, eq-eqb, ne_eqb, eqb-true}
 use borrow.Author.Tests.{clash}
 use Rattle.std.specs.Str.Iter.{LacksByte}
-use Rattle.std.specs.List.{join_with_byte, AllByRecursion, position, position_or_len}
+use Rattle.std.specs.List.{join_with_byte, AllByRecursion, position, position_or_len, slice_split, onto_first}
 use Rattle.std.proofs.lemmas.List.Quantifiers.{position-Some}
 use Rattle.std.proofs.lemmas.List.Sums.{fails_before_first}
 use Rattle.std.proofs.lemmas.Bool.Decides.{nat_tests}
@@ -97,3 +97,14 @@ lacks_rejoined b mark [] ne free = λ k l e. omega arith
 lacks_rejoined b mark (f ∷ []) ne free = free.0
 lacks_rejoined b mark (f ∷ g ∷ fs) ne free =
     lacks_append b f (mark ∷ join_with_byte mark (g ∷ fs)) free.0 (lacks_cons b mark (join_with_byte mark (g ∷ fs)) ne (lacks_rejoined b mark (g ∷ fs) ne free.1))
+
+-- std's parts of a slice that is cut at each mark
+onto_is : (c : ℕ) (ps : List (List ℕ)) → onto_first c ps ≡ onto c ps
+onto_is c [] = refl
+onto_is c (p ∷ ps) = refl
+
+pub parts_are_pieces : (mark : ℕ) (s : List ℕ) → slice_split (λ b. eqb b mark) s ≡ split mark s
+parts_are_pieces mark [] = refl
+parts_are_pieces mark (c ∷ s) =
+    ap (λ ps. cond (eqb c mark) ([] ∷ ps) (onto_first c ps)) (parts_are_pieces mark s)
+    ∙ ap (cond (eqb c mark) ([] ∷ split mark s)) (onto_is c (split mark s))
