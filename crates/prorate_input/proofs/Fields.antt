@@ -1,17 +1,13 @@
 -- A field is read as the number that it writes, and a line as its weights.
-use Rattle.std.proofs.Common.{◌≡◌, ℕ, zero, suc, ◌+◌, ◌^◌, ◌<◌, ◌≤◌, Bool, true, false, cond, ◌&&◌, ltb, List, [], ◌∷◌, map, length, get_or, Some, None, Ok, Err, decimal, Option, Result, sym, refl, ap, ◌∙◌, subst, arith}
+use Rattle.std.proofs.Common.{◌≡◌, ℕ, ◌+◌, ◌^◌, ◌<◌, ◌≤◌, Bool, true, false, cond, ltb, List, [], ◌∷◌, map, length, Some, None, Ok, Err, decimal, Option, Result, refl, ap, ◌∙◌, subst, arith}
 use Rattle.std.specs.Option.{ok_or}
 use Rattle.std.specs.Str.Iter.{LacksByte}
 use Rattle.std.specs.List.{join_with_byte, AllByRecursion}
-use Rattle.std.specs.Str.Parse.{digits_value}
 use Rattle.std.specs.Int.{IsInRange}
-use Rattle.std.specs.Str.{all_ascii_digits}
-use Rattle.std.proofs.lemmas.Fmt.{decimal-digits_value, digits_value-decimal, digits_decimal, decimal_nonempty, length-decimal-le, first_decimal}
-use Rattle.std.proofs.lemmas.Str.Parse.{digits_value_short, not_in_digits}
 use Rattle.std.proofs.lemmas.Bool.Decides.{nat_tests}
 use Rattle.prorate_input.specs.declared.faults.Fault.{Fault}
 use Rattle.prorate_input.specs.declared.faults.Fault.TheVariants.{BadWeight, TooManyWeights}
-use Rattle.words.specs.Words.{number_form, number_of, split}
+use Rattle.words.specs.Words.{number_of, split}
 use Rattle.prorate_input.specs.Reading.{and_then, weights_from}
 use Rattle.words.proofs.Numbers.{number_only, number_back, lacks_number}
 use Rattle.words.proofs.Pieces.{split_rejoined, lacks_rejoined}

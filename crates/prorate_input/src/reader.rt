@@ -14,7 +14,7 @@ use words::{cut, number};
 fn read_weights(pot: u64, line: &[u8]) -> Result<Input, Fault>
     ensures { meaning result ≡ with_weights pot line.now }
 {
-    let mut weights: ArrayVec<u64, MAX_WEIGHTS> = ArrayVec::new();
+    let mut weights = ArrayVec::new();
     for field in line.split(|b| *b == b' ') {
         if weights.is_full() {
             return Err(Fault::TooManyWeights);

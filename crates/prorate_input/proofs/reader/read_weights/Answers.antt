@@ -1,6 +1,5 @@
 -- A turn takes one field to one weight.
-use Rattle.std.proofs.Common.{◌≡◌, ℕ, ◌+◌, ◌<◌, ◌≤◌, List, [], ◌∷◌, ◌++◌, map, eqb, length, take, drop, Ok, Err, append_assoc, append-nil, length-append, refl, sym, ap, subst, ◌∙◌, arith, rules}
-use Rattle.std.specs.Slice.Iter.{split_steps}
+use Rattle.std.proofs.Common.{◌≡◌, ◌+◌, ◌<◌, ◌≤◌, [], ◌∷◌, ◌++◌, map, eqb, length, drop, Ok, Err, append_assoc, append-nil, length-append, refl, sym, ap, subst, ◌∙◌, arith, rules}
 use Rattle.std.proofs.lemmas.Bool.Decides.{nat_tests}
 use Rattle.std.proofs.lemmas.Iterator.{YieldsList}
 use Rattle.std.proofs.lemmas.Iterator.Splits.{YieldsList-from_slice_split}
