@@ -8,10 +8,11 @@ use Rattle.std.proofs.lemmas.Bool.{cases_eq}
 use Rattle.std.proofs.lemmas.Bool.Decides.{nat_tests}
 use Rattle.prorating.specs.Counts.{sum_to, sum_to_add, sum_to_same, same_places}
 use Rattle.payers.specs.declared.readings.Reading.{Reading}
-use Rattle.payers.specs.Bases.{is_company}
+use Rattle.numbered.specs.Entries.{with_entry}
+use Rattle.payers.specs.Bases.{is_company, weight_of}
 use Rattle.payers.specs.Zones.{Owner, is_owner, are_readings, injected, zone_weights, zone_kwh}
 use Rattle.payers.specs.Companies.{by_company}
-use Rattle.payers.specs.CompaniesLemmas.{by_company_long, by_company_at}
+use Rattle.payers.specs.CompaniesLemmas.{entry_long, weight_small, by_company_long, by_company_at}
 use Rattle.payers.proofs.ReadingLists.{no_reading, kwh_small}
 
 -- what one reading of an owner's unit adds for a company, and in all
@@ -24,14 +25,14 @@ counted owner kwh = cond (is_some owner) kwh 0
 -- the weights after a reading
 abbrev pub added : List ℕ → ℕ → Option ℕ → List ℕ
 added ws kwh None = ws
-added ws kwh (Some company) = set ws (company - 1) (get_or ws (company - 1) 0 + kwh)
+added ws kwh (Some company) = with_entry 32 ws company (weight_of ws company + kwh)
 
 abbrev pub Company : Option ℕ → Type 0
 Company owner = (c : ℕ) → owner ≡ Some c → is_company c ≡ true
 
 added_long : (ws : List ℕ) (kwh : ℕ) (owner : Option ℕ) → length (added ws kwh owner) ≡ length ws
 added_long ws kwh None = refl
-added_long ws kwh (Some c) = length-set ws (c - 1) (get_or ws (c - 1) 0 + kwh)
+added_long ws kwh (Some c) = entry_long ws c (weight_of ws c + kwh)
 
 added_at : (ws : List ℕ) (kwh : ℕ) (owner : Option ℕ) (k : ℕ) → length ws ≡ 32 → Company owner → k < 32 → get_or (added ws kwh owner) k 0 ≡ get_or ws k 0 + share owner kwh (k + 1)
 added_at ws kwh None k long company below = omega arith
@@ -41,10 +42,10 @@ added_at ws kwh (Some c) k long company below =
     ⊎_elim
     (λ same.
     let here : eqb c (k + 1) ≡ true = grind (arith, nat_tests) in
-    rw (← same, here) (get_or-set_same ws k (get_or ws k 0 + kwh) 0 (omega arith)))
+    rw (one, ← same, here) (get_or-set_same ws k (get_or ws k 0 + kwh) 0 (omega arith)))
     (λ other.
     let away : eqb c (k + 1) ≡ false = grind (arith, nat_tests) in
-    rw away (get_or-set_other ws (c - 1) k (get_or ws (c - 1) 0 + kwh) 0 (omega arith) ∙ omega arith))
+    rw (one, away) (get_or-set_other ws (c - 1) k (get_or ws (c - 1) 0 + kwh) 0 (omega arith) ∙ omega arith))
     (cases_eq k (c - 1))
 
 module _ (owner : Owner) (zone : ℕ) where
@@ -149,14 +150,12 @@ module _ (owner : Owner) (zone : ℕ) (company : (unit place : ℕ) → Company 
   weights_light rs are = omega (arith, weights_small rs, kwh_small rs are)
 
   -- there is room for one more reading
-  pub weight_fits : (rs : List Reading) (i k : ℕ) → are_readings rs ≡ true → i < length rs → k < 32 → get_or (zone_weights owner zone (take i rs)) k 0 + (get_or rs i no_reading).kwh ≤ 96_000_000
-  weight_fits rs i k are inside below =
+  pub weight_fits : (rs : List Reading) (i one : ℕ) → are_readings rs ≡ true → i < length rs → weight_of (zone_weights owner zone (take i rs)) one + (get_or rs i no_reading).kwh ≤ 96_000_000
+  weight_fits rs i one are inside =
       let ws = zone_weights owner zone (take i rs) in
-      let long = weights_long owner zone (take i rs) in
-      let there : k < length ws = omega arith in
       omega (
         arith,
-        get_or-le-sum_by (λ x. x) ws k 0 there,
+        weight_small ws one (weights_long owner zone (take i rs)),
         weights_small (take i rs),
         sum_by_more (λ (r : Reading). r.kwh) rs i no_reading inside,
         sum_by-take-le (λ (r : Reading). r.kwh) rs (i + 1),
