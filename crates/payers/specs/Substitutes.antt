@@ -3,16 +3,14 @@ use Rattle.std.specs.Prelude.{◌≡◌, ℕ, ◌+◌, ◌-◌, ◌<◌, ◌≤�
 use Rattle.std.proofs.Math.Path.{refl, sym, ap}
 use Rattle.std.proofs.Common.{◌∙◌, ⊎_elim, arith}
 use Rattle.std.specs.List.{range_with_len, list_any}
-use Rattle.std.proofs.lemmas.List.FromFn.{length-range_with_len, get_or-range_with_len}
 use Rattle.std.proofs.lemmas.List.Sums.{sum_by-cons}
 use Rattle.std.proofs.lemmas.List.{get_or-set_same, get_or-set_other}
 use Rattle.std.proofs.lemmas.Bool.{cases_Bool, cases_eq, cond-true, cond-false, lt-ltb, le-ltb, ltb-false, eqb-true, eqb-false, eq-eqb, ne_eqb, not-false, not_from_true, not_from_false, or_parts, both_ways}
 use Rattle.std.proofs.lemmas.Bool.Decides.{nat_tests}
-use Rattle.prorating.specs.Counts.{same_places}
 use Rattle.payers.specs.Bases.{is_company}
 use Rattle.payers.specs.Replacements.{participant_of, is_replaced, takes_part_for, is_substitute, is_barred, TakesPart}
 use Rattle.payers.specs.CompaniesLemmas.{weight_next}
-use Rattle.payers.specs.Runs.{sum_next, sum_term, sum_same, sum_zero}
+use Rattle.payers.specs.Runs.{sum_term, sum_same, sum_zero}
 
 -- whether some element passes a test is whether one or more do
 pub any_counted : (p : ℕ → Bool) (xs : List ℕ) → list_any p xs ≡ nat_lt 0 (count_by p xs)
@@ -32,19 +30,6 @@ only_itself ps company none other low high takes =
     let count = ltb-false _ _ none in
     let term = sum_term (λ other. cond (takes_part_for ps company other) 1 0) 1 32 other low high in
     grind (arith, nat_tests)
-
--- where nobody is replaced
-module _ (ps : List ℕ) (long : length ps ≡ 32) (each : (k : ℕ) → k < 32 → slice_index ps k ≡ k + 1) where
-  pub own_all : ps ≡ range_with_len 1 32
-  own_all =
-      same_places ps (range_with_len 1 32) 32 long (length-range_with_len 1 32)
-      (λ k h. each k h ∙ sym (get_or-range_with_len 1 32 k 0 h ∙ omega arith))
-
-  pub own_takes_part : (k : ℕ) → k < 32 → TakesPart ps k
-  own_takes_part k h =
-      let here = each k h in
-      let company : is_company (k + 1) ≡ true = grind (arith, nat_tests) in
-      rw here (company, weight_next ps k h ∙ here)
 
 -- a company that is not replaced takes part for itself
 pub takes_part_itself : (ps : List ℕ) (company : ℕ) → is_replaced ps company ≡ false → participant_of ps company ≡ company

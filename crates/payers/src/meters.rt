@@ -11,6 +11,7 @@ use numbered::{is_numbered, set_entry};
 pub const FIGURE_LIMIT: u64 = 90_000_000;
 
 // What each company withdrew and injected in the month, in MWh. The type keeps each figure within the limit.
+// Kept: two lists, not a list of pairs, since each of the two is a base as it stands.
 #[derive(Clone, Copy)]
 pub struct Meters {
     withdrawals: [u64; COMPANIES],

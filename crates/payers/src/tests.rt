@@ -151,6 +151,15 @@ fn any_other_number_weighs_nothing(rt: HostRuntime) -> Result<(), Fail> {
 }
 
 #[test]
+fn weights_are_listed(rt: HostRuntime) -> Result<(), Fail> {
+    let meters = meters([100, 200, 400])?;
+    assert_eq!(rt; first_three(meters.withdrawals().list()), [100, 200, 400]);
+    assert_eq!(rt; first_three(meters.injections().list()), [700, 300, 0]);
+    assert_eq!(rt; CompanyWeights::none().list(), [0; COMPANIES]);
+    Ok(())
+}
+
+#[test]
 fn refused_meters_change_nothing(rt: HostRuntime) -> Result<(), Fail> {
     let mut meters = Meters::none();
     meters.put(32, FIGURE_LIMIT, 1)?;

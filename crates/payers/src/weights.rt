@@ -1,4 +1,4 @@
-// The weights of the companies, as a list: what the bases over the meters and over a zone's hour are.
+// What our bases weigh: the bases over the meters and the zone's hour, held as a list, and each base under replacement.
 ghost use Rattle.std.specs.Prelude.{◌≡◌, ◌≤◌, length, replicate, sum};
 ghost use Rattle.prorating.specs.Weights.{limit};
 ghost use Rattle.payers.specs.Replacements.{Moves};
@@ -22,6 +22,13 @@ impl CompanyWeights {
         ensures { result.at ≡ replicate 32 0 }
     {
         CompanyWeights { at: [0; COMPANIES] }
+    }
+
+    // What each company weighs, as a list that a caller gets: that of company 1 first.
+    pub fn list(&self) -> [u64; COMPANIES]
+        ensures { result ≡ self.now.at }
+    {
+        weights_of(self)
     }
 }
 
