@@ -1,3 +1,4 @@
 pub mod Charged
 pub mod ReadingLists
 pub mod ZoneWeights
+pub mod CompanyNumbers

@@ -1,7 +1,6 @@
--- The test of a list of readings, one reading after another, and what it bounds.
-use Rattle.std.proofs.Common.{◌≡◌, ℕ, ◌+◌, ◌<◌, ◌≤◌, true, false, ◌&&◌, leb, List, [], ◌∷◌, length, get_or, drop, sum_by, sym, ap, ◌∙◌, arith}
+-- What the test of a list of readings bounds.
+use Rattle.std.proofs.Common.{◌≡◌, ◌≤◌, true, leb, List, [], ◌∷◌, length, sum_by, arith}
 use Rattle.std.specs.List.{list_all, AllByRecursion}
-use Rattle.std.proofs.lemmas.List.{drop_all, drop_more}
 use Rattle.std.proofs.ByRecursion.{sum_by_le}
 use Rattle.std.proofs.lemmas.Bool.{and_parts, leb-true}
 use Rattle.payers.specs.declared.readings.Reading.{Reading}
@@ -10,20 +9,6 @@ use Rattle.payers.specs.Zones.{is_within_limit, are_readings}
 -- what stands past the end of a list of readings
 abbrev pub no_reading : Reading
 no_reading = record { unit = 0; kwh = 0 }
-
--- the reading at i decides with those after it
-module _ (rs : List Reading) (i : ℕ) (inside : i < length rs) where
-  rest : list_all is_within_limit (drop i rs) ≡ (is_within_limit (get_or rs i no_reading) && list_all is_within_limit (drop (i + 1) rs))
-  rest = ap (list_all is_within_limit) (drop_more rs i no_reading inside)
-
-  pub rest_passes : true ≡ is_within_limit (get_or rs i no_reading) → list_all is_within_limit (drop i rs) ≡ list_all is_within_limit (drop (i + 1) rs)
-  rest_passes passes = rest ∙ ap (λ b. b && list_all is_within_limit (drop (i + 1) rs)) (sym passes)
-
-  pub rest_fails : false ≡ is_within_limit (get_or rs i no_reading) → list_all is_within_limit (drop i rs) ≡ false
-  rest_fails fails = rest ∙ ap (λ b. b && list_all is_within_limit (drop (i + 1) rs)) (sym fails)
-
-pub rest_none : (rs : List Reading) (i : ℕ) → length rs ≤ i → list_all is_within_limit (drop i rs) ≡ true
-rest_none rs i past = ap (list_all is_within_limit) (drop_all i rs past)
 
 -- 48 readings of 2,000,000 kWh
 each_small : (rs : List Reading) → list_all is_within_limit rs ≡ true → AllByRecursion (λ r. r.kwh ≤ 2_000_000) rs

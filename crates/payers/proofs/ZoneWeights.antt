@@ -1,17 +1,18 @@
 -- The weights of a zone's hour: one more reading, and their total.
-use Rattle.std.proofs.Common.{◌≡◌, ℕ, zero, suc, ◌+◌, ◌-◌, ◌<◌, ◌≤◌, true, false, cond, eqb, leb, List, [], ◌∷◌, map, length, get_or, take, set, replicate, is_some, Some, None, sum_by, sum, Option, sym, refl, ap, ◌∙◌, subst, ⊎_elim, add-one, arith, length-set}
+use Rattle.std.proofs.Common.{◌≡◌, ℕ, ◌+◌, ◌-◌, ◌<◌, ◌≤◌, true, false, cond, eqb, List, [], ◌∷◌, length, get_or, take, replicate, is_some, Some, None, sum_by, sum, Option, sym, refl, ap, ◌∙◌, ⊎_elim, arith}
 use Rattle.std.specs.List.{range_with_len}
-use Rattle.std.proofs.lemmas.List.FromFn.{sum_by-map-range_with_len_more}
 use Rattle.std.proofs.lemmas.List.{take_all, get_or-set_same, get_or-set_other}
-use Rattle.std.proofs.lemmas.List.Sums.{sum_by-cons, sum_by_more, sum_by-take-le, get_or-le-sum_by}
+use Rattle.std.proofs.lemmas.List.Sums.{sum_by-cons, sum_by_more, sum_by-take-le}
 use Rattle.std.proofs.lemmas.Bool.{cases_eq}
 use Rattle.std.proofs.lemmas.Bool.Decides.{nat_tests}
-use Rattle.prorating.specs.Counts.{sum_to, sum_to_add, sum_to_same, same_places}
+use Rattle.prorating.specs.Counts.{same_places}
 use Rattle.payers.specs.declared.readings.Reading.{Reading}
-use Rattle.payers.specs.Bases.{is_company}
+use Rattle.numbered.specs.Entries.{with_entry}
+use Rattle.payers.specs.Bases.{is_company, weight_of}
 use Rattle.payers.specs.Zones.{Owner, is_owner, are_readings, injected, zone_weights, zone_kwh}
 use Rattle.payers.specs.Companies.{by_company}
-use Rattle.payers.specs.CompaniesLemmas.{by_company_long, by_company_at}
+use Rattle.payers.specs.CompaniesLemmas.{entry_long, weight_small, by_company_long, by_company_at, by_company_sum}
+use Rattle.payers.specs.Runs.{sum_zero, sum_only, sum_exchange}
 use Rattle.payers.proofs.ReadingLists.{no_reading, kwh_small}
 
 -- what one reading of an owner's unit adds for a company, and in all
@@ -24,14 +25,14 @@ counted owner kwh = cond (is_some owner) kwh 0
 -- the weights after a reading
 abbrev pub added : List ℕ → ℕ → Option ℕ → List ℕ
 added ws kwh None = ws
-added ws kwh (Some company) = set ws (company - 1) (get_or ws (company - 1) 0 + kwh)
+added ws kwh (Some company) = with_entry 32 ws company (weight_of ws company + kwh)
 
 abbrev pub Company : Option ℕ → Type 0
 Company owner = (c : ℕ) → owner ≡ Some c → is_company c ≡ true
 
 added_long : (ws : List ℕ) (kwh : ℕ) (owner : Option ℕ) → length (added ws kwh owner) ≡ length ws
 added_long ws kwh None = refl
-added_long ws kwh (Some c) = length-set ws (c - 1) (get_or ws (c - 1) 0 + kwh)
+added_long ws kwh (Some c) = entry_long ws c (weight_of ws c + kwh)
 
 added_at : (ws : List ℕ) (kwh : ℕ) (owner : Option ℕ) (k : ℕ) → length ws ≡ 32 → Company owner → k < 32 → get_or (added ws kwh owner) k 0 ≡ get_or ws k 0 + share owner kwh (k + 1)
 added_at ws kwh None k long company below = omega arith
@@ -41,10 +42,10 @@ added_at ws kwh (Some c) k long company below =
     ⊎_elim
     (λ same.
     let here : eqb c (k + 1) ≡ true = grind (arith, nat_tests) in
-    rw (← same, here) (get_or-set_same ws k (get_or ws k 0 + kwh) 0 (omega arith)))
+    rw (one, ← same, here) (get_or-set_same ws k (get_or ws k 0 + kwh) 0 (omega arith)))
     (λ other.
     let away : eqb c (k + 1) ≡ false = grind (arith, nat_tests) in
-    rw away (get_or-set_other ws (c - 1) k (get_or ws (c - 1) 0 + kwh) 0 (omega arith) ∙ omega arith))
+    rw (one, away) (get_or-set_other ws (c - 1) k (get_or ws (c - 1) 0 + kwh) 0 (omega arith) ∙ omega arith))
     (cases_eq k (c - 1))
 
 module _ (owner : Owner) (zone : ℕ) where
@@ -80,50 +81,22 @@ module _ (owner : Owner) (zone : ℕ) where
   unfolding zone_weights by_company injected
   weights_none = refl
 
--- one reading adds to one of the companies 1 to n at most
-sum_to_zeros : (n : ℕ) → sum_to (λ _. 0) n ≡ 0
-sum_to_zeros zero = refl
-sum_to_zeros (suc n) = omega (arith, sum_to_zeros n)
-
-one_share : (c kwh n : ℕ) → 0 < c → sum_to (λ k. share (Some c) kwh (k + 1)) n ≡ cond (leb c n) kwh 0
-one_share c kwh zero first = grind (arith, nat_tests)
-one_share c kwh (suc n) first = let before = one_share c kwh n first in grind (arith, nat_tests)
-
-all_shares : (owner : Option ℕ) (kwh n : ℕ) → n ≡ 32 → Company owner → sum_to (λ k. share owner kwh (k + 1)) n ≡ counted owner kwh
-all_shares None kwh n all company = sum_to_zeros n
-all_shares (Some c) kwh n all company =
+-- what one reading adds for the companies together
+all_shares : (owner : Option ℕ) (kwh : ℕ) → Company owner → sum_by (share owner kwh) (range_with_len 1 32) ≡ counted owner kwh
+all_shares None kwh company = sum_zero (range_with_len 1 32)
+all_shares (Some c) kwh company =
     let one = company c refl in
-    let first : 0 < c = grind (arith, nat_tests) in
-    let within : leb c n ≡ true = grind (arith, nat_tests) in
-    one_share c kwh n first ∙ ap (λ b. cond b kwh 0) within
-
-sum_counting : (f : ℕ → ℕ) (n : ℕ) → sum (map f (range_with_len 1 n)) ≡ sum_to (λ k. f (k + 1)) n
-sum_counting f zero = refl
-sum_counting f (suc n) =
-    subst (λ m. sum (map f (range_with_len 1 m)) ≡ sum_to (λ k. f (k + 1)) (suc n)) (add-one n)
-    (sum_by-map-range_with_len_more (λ x. x) f 1 n (n + 1) (omega arith) ∙ ap (λ x. x + f (n + 1)) (sum_counting f n))
+    sum_only c kwh 1 32 (grind (arith, nat_tests)) (grind (arith, nat_tests))
 
 -- where every owner is a company
 module _ (owner : Owner) (zone : ℕ) (company : (unit place : ℕ) → Company (owner unit place)) where
-  all_injected : (rs : List Reading) (n : ℕ) → n ≡ 32 → sum_to (λ k. injected owner zone rs (k + 1)) n ≡ zone_kwh owner zone rs
-  unfolding injected zone_kwh
-  all_injected [] n all = sum_to_zeros n
-  all_injected (r ∷ rs) n all =
-      let here : ℕ → ℕ = λ k. share (owner r.unit zone) r.kwh (k + 1) in
-      let rest : ℕ → ℕ = λ k. injected owner zone rs (k + 1) in
-      sum_to_same _ (λ k. here k + rest k) n (λ k below. sum_by-cons (λ r. share (owner r.unit zone) r.kwh (k + 1)) r rs)
-      ∙ sum_to_add here rest n
-      ∙ omega (
-        arith,
-        all_shares (owner r.unit zone) r.kwh n all (company r.unit zone),
-        all_injected rs n all,
-        sum_by-cons (λ r. counted (owner r.unit zone) r.kwh) r rs,
-      )
-
   -- nothing is counted twice, and nothing is lost
   pub weights_total : (rs : List Reading) → sum (zone_weights owner zone rs) ≡ zone_kwh owner zone rs
-  unfolding zone_weights by_company
-  weights_total rs = sum_counting (injected owner zone rs) 32 ∙ all_injected rs 32 refl
+  unfolding zone_weights injected zone_kwh
+  weights_total rs =
+      by_company_sum (injected owner zone rs)
+      ∙ sum_exchange (λ one r. share (owner r.unit zone) r.kwh one) (range_with_len 1 32) rs
+      ∙ (λ i. sum_by (λ r. all_shares (owner r.unit zone) r.kwh (company r.unit zone) i) rs)
 
   -- and the total is at most the kWh of all the readings
   counted_small : (o : Option ℕ) (kwh : ℕ) → counted o kwh ≤ kwh
@@ -149,14 +122,12 @@ module _ (owner : Owner) (zone : ℕ) (company : (unit place : ℕ) → Company 
   weights_light rs are = omega (arith, weights_small rs, kwh_small rs are)
 
   -- there is room for one more reading
-  pub weight_fits : (rs : List Reading) (i k : ℕ) → are_readings rs ≡ true → i < length rs → k < 32 → get_or (zone_weights owner zone (take i rs)) k 0 + (get_or rs i no_reading).kwh ≤ 96_000_000
-  weight_fits rs i k are inside below =
+  pub weight_fits : (rs : List Reading) (i one : ℕ) → are_readings rs ≡ true → i < length rs → weight_of (zone_weights owner zone (take i rs)) one + (get_or rs i no_reading).kwh ≤ 96_000_000
+  weight_fits rs i one are inside =
       let ws = zone_weights owner zone (take i rs) in
-      let long = weights_long owner zone (take i rs) in
-      let there : k < length ws = omega arith in
       omega (
         arith,
-        get_or-le-sum_by (λ x. x) ws k 0 there,
+        weight_small ws one (weights_long owner zone (take i rs)),
         weights_small (take i rs),
         sum_by_more (λ (r : Reading). r.kwh) rs i no_reading inside,
         sum_by-take-le (λ (r : Reading). r.kwh) rs (i + 1),

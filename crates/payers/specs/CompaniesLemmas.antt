@@ -1,10 +1,12 @@
 -- Lists with an entry for each company, by the company's number.
-use Rattle.std.specs.Prelude.{◌≡◌, ℕ, ◌+◌, ◌-◌, ◌<◌, true, List, length, sum_by, sum, slice_index}
-use Rattle.std.proofs.Common.{sym, ap, ◌∙◌, arith}
+use Rattle.std.specs.Prelude.{◌≡◌, ℕ, ◌+◌, ◌-◌, ◌<◌, ◌≤◌, true, List, map, length, sum_by, sum, slice_index}
+use Rattle.std.proofs.Common.{sym, ap, ◌∙◌, ⊎_elim, arith}
 use Rattle.std.specs.List.{range_with_len}
-use Rattle.std.proofs.lemmas.List.FromFn.{length-map-range_with_len, get_or-map-range_with_len}
-use Rattle.std.proofs.lemmas.List.Sums.{sum-map}
-use Rattle.std.proofs.lemmas.Bool.{cond-true}
+use Rattle.numbered.specs.Entries.{with_entry}
+use Rattle.std.proofs.lemmas.List.{length-set}
+use Rattle.std.proofs.lemmas.List.FromFn.{length-map-range_with_len, get_or-map-range_with_len, fill_by_all}
+use Rattle.std.proofs.lemmas.List.Sums.{sum-map, get_or-le-sum_by}
+use Rattle.std.proofs.lemmas.Bool.{cases_Bool, cond-true}
 use Rattle.std.proofs.lemmas.Bool.Decides.{nat_tests}
 use Rattle.prorating.specs.Counts.{same_places}
 use Rattle.payers.specs.Bases.{is_company, weight_of}
@@ -16,6 +18,26 @@ weight_next ws k inside =
     let company : is_company (k + 1) ≡ true = grind (arith, nat_tests) in
     let index : k + 1 - 1 ≡ k = omega arith in
     rw (company, index)
+
+-- all weights, one after the other
+pub weights_all : (ws : List ℕ) → length ws ≡ 32 → map (λ k. weight_of ws (k + 1)) (range_with_len 0 32) ≡ ws
+weights_all ws long = sym (fill_by_all (λ k. weight_of ws (k + 1)) ws 32 0 long (λ k h. sym (weight_next ws k h)))
+
+-- one weight is at most the total
+pub weight_small : (ws : List ℕ) (company : ℕ) → length ws ≡ 32 → weight_of ws company ≤ sum ws
+weight_small ws company long =
+    ⊎_elim
+    (λ there. rw there (get_or-le-sum_by (λ x. x) ws (company - 1) 0 (grind (arith, nat_tests))))
+    (λ none. rw none (omega arith))
+    (cases_Bool (is_company company))
+
+-- a list with another entry
+pub entry_long : (ws : List ℕ) (company entry : ℕ) → length (with_entry 32 ws company entry) ≡ length ws
+entry_long ws company entry =
+    ⊎_elim
+    (λ there. rw there (length-set ws (company - 1) entry))
+    (λ none. rw none)
+    (cases_Bool (is_company company))
 
 -- a list made from an entry for each company
 module _ (f : ℕ → ℕ) where

@@ -7,26 +7,20 @@ use crate::base::{COMPANIES, PayerBase};
 use prorating::prorated::prorated;
 use prorating::rule::Rule;
 use prorating::weights::{PLACES, Weights};
+use std::array;
 
 // The weights of a base, that of company 1 first.
 pub fn weights_of<B: PayerBase>(base: &B) -> [u64; COMPANIES]
     ensures { result ≡ B.PayerBase.weights base.now }
 {
-    let mut weights = [0; COMPANIES];
-    for k in 0..COMPANIES {
-        weights[k] = base.weight(k as u64 + 1);
-    }
-    weights
+    array::from_fn(|k| base.weight(k as u64 + 1))
 }
 
 // The weight list of a base. None is refused, since a base keeps its total within the limit.
 fn weight_list<B: PayerBase>(base: &B) -> Weights
     ensures { result.at ≡ padded (B.PayerBase.weights base.now) }
 {
-    match Weights::of(&weights_of(base)) {
-        Ok(list) => list,
-        Err(_) => unreachable(),
-    }
+    Weights::of(&weights_of(base)).unwrap()
 }
 
 // The total of a base's weights.
@@ -40,9 +34,7 @@ pub fn total_weight<B: PayerBase>(base: &B) -> u64
 fn companies_shares(shares: &[u64; PLACES]) -> [u64; COMPANIES]
     ensures { result ≡ take 32 shares.now }
 {
-    let mut first = [0; COMPANIES];
-    first.copy_from_slice(&shares[..COMPANIES]);
-    first
+    *shares.first_chunk().unwrap()
 }
 
 // The charges of a pot, in cents: the rule's shares over the base's weights, that of company 1 first.

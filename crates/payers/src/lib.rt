@@ -4,7 +4,6 @@
 
 pub mod base;
 pub mod charging;
-mod company;
 pub mod meters;
 pub mod readings;
 pub mod refusal;

@@ -1,16 +1,17 @@
 // The table of meters, and the two bases over it.
 ghost use Rattle.std.specs.Prelude.{◌≡◌, length, replicate};
 ghost use Rattle.payers.specs.Meters.{Small, is_metered as is_metered_of, put_answer, put_after};
-ghost use Rattle.payers.specs.Figures.{column_based};
 
-use crate::base::{COMPANIES, PayerBase};
-use crate::company::{entry_of, is_company};
+use crate::base::COMPANIES;
 use crate::refusal::Refusal;
+use crate::weights::CompanyWeights;
+use numbered::{is_numbered, set_entry};
 
 // The largest figure of a company, in MWh.
 pub const FIGURE_LIMIT: u64 = 90_000_000;
 
 // What each company withdrew and injected in the month, in MWh. The type keeps each figure within the limit.
+// Kept: two lists, not a list of pairs, since each of the two is a base as it stands.
 #[derive(Clone, Copy)]
 pub struct Meters {
     withdrawals: [u64; COMPANIES],
@@ -41,56 +42,27 @@ impl Meters {
         if !is_metered(company, withdrawals, injections) {
             return Err(Refusal::Limits);
         }
-        let index = company as usize - 1;
-        self.withdrawals[index] = withdrawals;
-        self.injections[index] = injections;
+        set_entry(&mut self.withdrawals, company, withdrawals);
+        set_entry(&mut self.injections, company, injections);
         Ok(())
     }
 
     // What the companies withdrew, as a base: that of frequency and voltage control.
-    pub fn withdrawals(&self) -> Withdrawals
-        ensures { result.meters.withdrawals ≡ self.now.withdrawals }
+    pub fn withdrawals(&self) -> CompanyWeights
+        ensures { result.at ≡ self.now.withdrawals }
     {
-        Withdrawals { meters: *self }
+        CompanyWeights {
+            at: self.withdrawals,
+        }
     }
 
     // What the companies injected, as a base: that of installations.
-    pub fn injections(&self) -> Injections
-        ensures { result.meters.injections ≡ self.now.injections }
+    pub fn injections(&self) -> CompanyWeights
+        ensures { result.at ≡ self.now.injections }
     {
-        Injections { meters: *self }
-    }
-}
-
-// The base of those who withdrew.
-#[derive(Clone, Copy)]
-pub struct Withdrawals {
-    meters: Meters,
-}
-
-impl PayerBase for Withdrawals {
-    ghost weights = { λ s. s.meters.withdrawals };
-
-    ghost based = { λ s. column_based s.meters.withdrawals s.meters.withdrawals_long s.meters.withdrawals_small };
-
-    fn weight(&self, company: u64) -> u64 {
-        entry_of(&self.meters.withdrawals, company)
-    }
-}
-
-// The base of those who injected.
-#[derive(Clone, Copy)]
-pub struct Injections {
-    meters: Meters,
-}
-
-impl PayerBase for Injections {
-    ghost weights = { λ s. s.meters.injections };
-
-    ghost based = { λ s. column_based s.meters.injections s.meters.injections_long s.meters.injections_small };
-
-    fn weight(&self, company: u64) -> u64 {
-        entry_of(&self.meters.injections, company)
+        CompanyWeights {
+            at: self.injections,
+        }
     }
 }
 
@@ -98,5 +70,5 @@ impl PayerBase for Injections {
 fn is_metered(company: u64, withdrawals: u64, injections: u64) -> bool
     ensures { result ≡ is_metered_of company withdrawals injections }
 {
-    is_company(company) && withdrawals <= FIGURE_LIMIT && injections <= FIGURE_LIMIT
+    is_numbered(company, COMPANIES) && withdrawals <= FIGURE_LIMIT && injections <= FIGURE_LIMIT
 }

@@ -1,6 +1,5 @@
 // The readings of a shedding: what each unit injected in the hour before it.
-ghost use Rattle.std.specs.Prelude.{◌≡◌, length, nat_le};
-ghost use Rattle.std.specs.List.{list_all};
+ghost use Rattle.std.specs.Prelude.{◌≡◌};
 ghost use Rattle.payers.specs.Zones.{is_within_limit as is_within, are_readings};
 
 // How many readings a shedding brings at most.
@@ -16,13 +15,6 @@ pub struct Reading {
     pub kwh: u64,
 }
 
-// Whether there are at most 48.
-fn are_few(readings: &[Reading]) -> bool
-    ensures { result ≡ nat_le (length readings.now) 48 }
-{
-    readings.len() <= READINGS
-}
-
 impl Reading {
     // Whether the kWh are within their limit.
     pub fn is_within_limit(&self) -> bool
@@ -32,21 +24,9 @@ impl Reading {
     }
 }
 
-// Whether each is within its limit.
-fn are_small(readings: &[Reading]) -> bool
-    ensures { result ≡ list_all is_within readings.now }
-{
-    for reading in readings {
-        if !reading.is_within_limit() {
-            return false;
-        }
-    }
-    true
-}
-
 // Whether a shedding may bring these: at most 48, each within its limit.
 pub fn are_readings(readings: &[Reading]) -> bool
     ensures { result ≡ are_readings readings.now }
 {
-    are_few(readings) && are_small(readings)
+    readings.len() <= READINGS && readings.iter().all(|reading| reading.is_within_limit())
 }

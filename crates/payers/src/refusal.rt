@@ -1,6 +1,6 @@
 // What the payer bases refuse.
 ghost use Rattle.std.specs.Prelude.{◌≡◌};
-ghost use Rattle.payers.specs.Refusals.{number as number_of};
+ghost use Rattle.payers.specs.Refusals.{number};
 
 #[derive(Clone, Copy, Debug, PartialEq)]
 pub enum Refusal {
@@ -10,12 +10,12 @@ pub enum Refusal {
     Barred,
 }
 
-impl Refusal {
-    // The refusal's number, as in docs/REFUSALS.md.
-    pub fn number(&self) -> u8
-        ensures { result ≡ number_of self.now }
-    {
-        match self {
+// The refusal's number, as in docs/REFUSALS.md.
+impl From<Refusal> for u8 {
+    ghost from_gives = { λ refusal n. n ≡ number refusal };
+
+    fn from(refusal: Refusal) -> u8 {
+        match refusal {
             Refusal::Limits => 2,
             Refusal::Barred => 6,
         }

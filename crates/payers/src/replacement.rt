@@ -5,8 +5,9 @@ ghost use Rattle.payers.specs.Replacements.{participant_of, is_replaced as is_re
 ghost use Rattle.payers.specs.Moved.{moved_based};
 
 use crate::base::{COMPANIES, PayerBase};
-use crate::company::{entry_of, is_company};
 use crate::refusal::Refusal;
+use numbered::{entry_of, is_numbered, set_entry};
+use std::array;
 
 // For each company the one that takes part for it: itself where it is not replaced. The type keeps that those who take part are
 // companies, and are not themselves replaced.
@@ -22,18 +23,16 @@ impl Replacements {
     pub fn none() -> Replacements
         ensures { result.participants ≡ range_with_len 1 32 }
     {
-        let mut participants = [0; COMPANIES];
-        for k in 0..COMPANIES {
-            participants[k] = k as u64 + 1;
+        Replacements {
+            participants: array::from_fn(|k| k as u64 + 1),
         }
-        Replacements { participants }
     }
 
     // The one that takes part for a company; 0 for a number that is no company's.
     pub fn participant(&self, company: u64) -> u64
         ensures { result ≡ participant_of self.now.participants company }
     {
-        entry_of(&self.participants, company)
+        entry_of(&self.participants, company, 0)
     }
 
     // Whether another takes part for a company.
@@ -54,12 +53,7 @@ impl Replacements {
     fn is_substitute(&self, company: u64) -> bool
         ensures { result ≡ is_substitute_in self.now.participants company }
     {
-        for k in 0..COMPANIES {
-            if self.takes_part_for(company, k as u64 + 1) {
-                return true;
-            }
-        }
-        false
+        (1..=COMPANIES as u64).any(|other| self.takes_part_for(company, other))
     }
 
     // Whether the new company cannot replace the old one.
@@ -74,13 +68,13 @@ impl Replacements {
         ensures answered { result ≡ replace_answer self.old.participants old new }
         ensures after { self.new.participants ≡ replace_after self.old.participants old new }
     {
-        if !is_company(old) || !is_company(new) {
+        if !is_numbered(old, COMPANIES) || !is_numbered(new, COMPANIES) {
             return Err(Refusal::Limits);
         }
         if self.is_barred(old, new) {
             return Err(Refusal::Barred);
         }
-        self.participants[old as usize - 1] = new;
+        set_entry(&mut self.participants, old, new);
         Ok(())
     }
 }
@@ -123,13 +117,11 @@ impl<B: PayerBase> PayerBase for Replacement<B> {
         moved_based r.participants r.each (B.PayerBase.weights s.base) below.long below.light };
 
     fn weight(&self, company: u64) -> u64 {
-        if !is_company(company) {
+        if !is_numbered(company, COMPANIES) {
             return 0;
         }
-        let mut weight = 0;
-        for k in 0..COMPANIES {
-            weight += self.part(company, k as u64 + 1);
-        }
-        weight
+        (1..=COMPANIES as u64)
+            .map(|one| self.part(company, one))
+            .sum()
     }
 }

@@ -1,10 +1,11 @@
 // Worked pots, charged over the meters and under replacement, and what is refused.
 use crate::base::{COMPANIES, PayerBase};
 use crate::charging::charges;
-use crate::meters::{FIGURE_LIMIT, Meters, Withdrawals};
+use crate::meters::{FIGURE_LIMIT, Meters};
 use crate::refusal::Refusal;
 use crate::replacement::{Replacement, Replacements};
 use crate::suspension::Suspension;
+use crate::weights::CompanyWeights;
 use prorating::largest::Largest;
 use prorating::running::Running;
 use std::test::Fail;
@@ -114,7 +115,7 @@ fn a_layer_over_a_layer_is_charged(rt: HostRuntime) -> Result<(), Fail> {
     let mut replacements = Replacements::none();
     replacements.replace(1, 3)?;
     let replaced = Replacement::over(meters([100, 200, 400])?.withdrawals(), replacements);
-    let base: Suspension<Replacement<Withdrawals>> = Suspension::over(replaced, 2);
+    let base: Suspension<Replacement<CompanyWeights>> = Suspension::over(replaced, 2);
     assert_eq!(rt;
         first_three(charges(45_001, &base, &Running)),
         [0, 0, 45_001]
@@ -150,6 +151,15 @@ fn any_other_number_weighs_nothing(rt: HostRuntime) -> Result<(), Fail> {
 }
 
 #[test]
+fn weights_are_listed(rt: HostRuntime) -> Result<(), Fail> {
+    let meters = meters([100, 200, 400])?;
+    assert_eq!(rt; first_three(meters.withdrawals().list()), [100, 200, 400]);
+    assert_eq!(rt; first_three(meters.injections().list()), [700, 300, 0]);
+    assert_eq!(rt; CompanyWeights::none().list(), [0; COMPANIES]);
+    Ok(())
+}
+
+#[test]
 fn refused_meters_change_nothing(rt: HostRuntime) -> Result<(), Fail> {
     let mut meters = Meters::none();
     meters.put(32, FIGURE_LIMIT, 1)?;
@@ -165,7 +175,7 @@ fn refused_meters_change_nothing(rt: HostRuntime) -> Result<(), Fail> {
         (FIGURE_LIMIT, 1)
     );
     assert_eq!(rt;
-        (Refusal::Limits.number(), Refusal::Barred.number()),
+        (u8::from(Refusal::Limits), u8::from(Refusal::Barred)),
         (2, 6)
     );
     Ok(())

@@ -1,27 +1,45 @@
-// What our bases weigh: the meaning of each, as a list that a caller gets.
-ghost use Rattle.std.specs.Prelude.{◌≡◌, true, false, MatchOption};
+// What our bases weigh: the bases over the meters and the zone's hour, held as a list, and each base under replacement.
+ghost use Rattle.std.specs.Prelude.{◌≡◌, ◌≤◌, length, replicate, sum};
+ghost use Rattle.prorating.specs.Weights.{limit};
 ghost use Rattle.payers.specs.Replacements.{Moves};
-ghost use Rattle.payers.specs.Zones.{are_readings, Summed};
 
 use crate::base::{COMPANIES, PayerBase};
 use crate::charging::weights_of;
-use crate::meters::Meters;
-use crate::readings::Reading;
 use crate::replacement::{Replacement, Replacements};
-use crate::zone::{Owners, ZoneHour};
+use numbered::entry_of;
 
-// The base of frequency and voltage weighs what was withdrawn.
-pub fn withdrawal_weights(meters: &Meters) -> [u64; COMPANIES]
-    ensures { result ≡ meters.now.withdrawals }
-{
-    weights_of(&meters.withdrawals())
+// The weight of each company, held as a list. The type keeps the total within the limit of a weight list.
+#[derive(Clone, Copy)]
+pub struct CompanyWeights {
+    pub(crate) at: [u64; COMPANIES],
+    ghost long: { length at ≡ 32 },
+    ghost light: { sum at ≤ limit },
 }
 
-// The base of installations weighs what was injected.
-pub fn injection_weights(meters: &Meters) -> [u64; COMPANIES]
-    ensures { result ≡ meters.now.injections }
-{
-    weights_of(&meters.injections())
+impl CompanyWeights {
+    // The base in which nobody weighs anything.
+    pub fn none() -> CompanyWeights
+        ensures { result.at ≡ replicate 32 0 }
+    {
+        CompanyWeights { at: [0; COMPANIES] }
+    }
+
+    // What each company weighs, as a list that a caller gets: that of company 1 first.
+    pub fn list(&self) -> [u64; COMPANIES]
+        ensures { result ≡ self.now.at }
+    {
+        weights_of(self)
+    }
+}
+
+impl PayerBase for CompanyWeights {
+    ghost weights = { λ s. s.at };
+
+    ghost based = { λ s. record { long = s.long; light = s.light } };
+
+    fn weight(&self, company: u64) -> u64 {
+        entry_of(&self.at, company, 0)
+    }
 }
 
 // Replacement over any base moves the weights of those that are replaced, and nothing else.
@@ -32,18 +50,4 @@ pub fn replaced_weights<B: PayerBase + Drop>(
     ensures { Moves replacements.participants (B.PayerBase.weights base) result }
 {
     weights_of(&Replacement::over(base, replacements))
-}
-
-// The zone's hour weighs what each company's units in the zone injected; None where these are not readings that a shedding may bring.
-pub fn zone_hour_weights<O: Owners>(
-    readings: &[Reading],
-    owners: &O,
-    zone: u64,
-) -> Option<[u64; COMPANIES]>
-    ensures { MatchOption result (are_readings readings.now ≡ false) (λ ws. (are_readings readings.now ≡ true) × Summed (O.Owners.owner owners.now) zone readings.now ws) }
-{
-    match ZoneHour::of(readings, owners, zone) {
-        Some(hour) => Some(weights_of(&hour)),
-        None => None,
-    }
 }

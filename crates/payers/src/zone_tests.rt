@@ -4,7 +4,7 @@ ghost use Rattle.std.proofs.Common.{rules};
 
 use crate::base::PayerBase;
 use crate::readings::{KWH_LIMIT, Reading, are_readings};
-use crate::zone::{Owners, ZoneHour};
+use crate::zone::{Owners, zone_weights};
 use std::test::Fail;
 
 // Units 10 and 11, in zone 1, are company 7's; unit 12, in zone 1, and unit 20, in zone 2, are company 32's.
@@ -46,7 +46,7 @@ const HOUR: [Reading; 6] = [
 fn zone_readings_count_for_the_owners(rt: HostRuntime) -> Result<(), Fail> {
     // a zone, and what companies 7 and 32 injected there
     for (zone, seven, last) in [(1, 753, 40), (2, 0, 9_000), (3, 0, 0)] {
-        let Some(hour) = ZoneHour::of(&HOUR, &FourUnits, zone) else {
+        let Some(hour) = zone_weights(&HOUR, &FourUnits, zone) else {
             return Err(Fail::new("refused"));
         };
         assert_eq!(rt; (hour.weight(7), hour.weight(32)), (seven, last));
@@ -59,7 +59,7 @@ fn zone_readings_count_for_the_owners(rt: HostRuntime) -> Result<(), Fail> {
 
 #[test]
 fn zone_without_readings(rt: HostRuntime) -> Result<(), Fail> {
-    let Some(hour) = ZoneHour::of(&[], &FourUnits, 1) else {
+    let Some(hour) = zone_weights(&[], &FourUnits, 1) else {
         return Err(Fail::new("refused"));
     };
     for company in 0..34 {
@@ -74,7 +74,7 @@ fn zone_limits(rt: HostRuntime) -> Result<(), Fail> {
         unit: 10,
         kwh: KWH_LIMIT,
     };
-    let Some(hour) = ZoneHour::of(&[largest; 48], &FourUnits, 1) else {
+    let Some(hour) = zone_weights(&[largest; 48], &FourUnits, 1) else {
         return Err(Fail::new("refused"));
     };
     assert_eq!(rt; hour.weight(7), 96_000_000);
@@ -84,7 +84,7 @@ fn zone_limits(rt: HostRuntime) -> Result<(), Fail> {
     };
     // refused in the zone and elsewhere
     assert!(rt; !are_readings(&[largest; 49]) && !are_readings(&[largest, larger]));
-    assert!(rt; ZoneHour::of(&[largest; 49], &FourUnits, 1).is_none());
-    assert!(rt; ZoneHour::of(&[largest, larger], &FourUnits, 2).is_none());
+    assert!(rt; zone_weights(&[largest; 49], &FourUnits, 1).is_none());
+    assert!(rt; zone_weights(&[largest, larger], &FourUnits, 2).is_none());
     Ok(())
 }

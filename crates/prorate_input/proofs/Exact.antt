@@ -5,11 +5,12 @@ use Rattle.std.specs.Option.{ok_or}
 use Rattle.std.specs.List.{join_with_byte}
 use Rattle.prorate_input.specs.declared.faults.Fault.{Fault}
 use Rattle.prorate_input.specs.declared.faults.Fault.TheVariants.{BadPot, BytesAfterEnd}
-use Rattle.prorate_input.specs.Words.{number_of, split}
+use Rattle.words.specs.Words.{number_of, split}
 use Rattle.prorate_input.specs.Reading.{and_then, weights_from, at_end, second_line, first_line, reading}
 use Rattle.prorate_input.specs.Texts.{written, Says, Exactly, Limited}
-use Rattle.prorate_input.proofs.Pieces.{split_none, split_first, first_piece, rejoined_split}
-use Rattle.prorate_input.proofs.Fields.{err_ok, number_only, number_back, lacks_number, weights_only, weights_back, split_line, lacks_line}
+use Rattle.words.proofs.Pieces.{split_none, split_first, first_piece, rejoined_split}
+use Rattle.prorate_input.proofs.Fields.{err_ok, weights_only, weights_back, split_line, lacks_line}
+use Rattle.words.proofs.Numbers.{number_only, number_back, lacks_number}
 
 -- what is read is what the bytes write
 

@@ -1,56 +1,19 @@
 -- A field is read as the number that it writes, and a line as its weights.
-use Rattle.std.proofs.Common.{◌≡◌, ℕ, zero, suc, ◌+◌, ◌^◌, ◌<◌, ◌≤◌, Bool, true, false, cond, ◌&&◌, ltb, List, [], ◌∷◌, map, length, get_or, Some, None, Ok, Err, decimal, Option, Result, sym, refl, ap, ◌∙◌, subst, arith}
+use Rattle.std.proofs.Common.{◌≡◌, ℕ, ◌+◌, ◌^◌, ◌<◌, ◌≤◌, Bool, true, false, cond, ltb, List, [], ◌∷◌, map, length, Some, None, Ok, Err, decimal, Option, Result, refl, ap, ◌∙◌, subst, arith}
 use Rattle.std.specs.Option.{ok_or}
 use Rattle.std.specs.Str.Iter.{LacksByte}
 use Rattle.std.specs.List.{join_with_byte, AllByRecursion}
-use Rattle.std.specs.Str.Parse.{digits_value}
 use Rattle.std.specs.Int.{IsInRange}
-use Rattle.std.specs.Str.{all_ascii_digits}
-use Rattle.std.proofs.lemmas.Fmt.{decimal-digits_value, digits_value-decimal, digits_decimal, decimal_nonempty, length-decimal-le, first_decimal}
-use Rattle.std.proofs.lemmas.Str.Parse.{digits_value_short, not_in_digits}
 use Rattle.std.proofs.lemmas.Bool.Decides.{nat_tests}
 use Rattle.prorate_input.specs.declared.faults.Fault.{Fault}
 use Rattle.prorate_input.specs.declared.faults.Fault.TheVariants.{BadWeight, TooManyWeights}
-use Rattle.prorate_input.specs.Words.{number_form, number_of, split}
+use Rattle.words.specs.Words.{number_of, split}
 use Rattle.prorate_input.specs.Reading.{and_then, weights_from}
-use Rattle.prorate_input.proofs.Digits.{own, form_short, number_is}
-use Rattle.prorate_input.proofs.Pieces.{split_none, split_first, lacks_append, lacks_cons}
+use Rattle.words.proofs.Numbers.{number_only, number_back, lacks_number}
+use Rattle.words.proofs.Pieces.{split_rejoined, lacks_rejoined}
 
 pub err_ok : {X : Type 0} {e : Fault} {x : X} → ◌≡◌ {A = Result X Fault} (Err e) (Ok x) → ⊥
 err_ok h = let z : ◌≡◌ {A = ℕ} 0 1 = cc in omega arith
-
--- a number
-
-number_by : (b : Bool) (v n : ℕ) → cond b (Some v) None ≡ Some n → (b ≡ true) × (v ≡ n)
-number_by true v n e = (refl, cc)
-number_by false v n e = absurd (let z : ◌≡◌ {A = ℕ} 0 1 = cc in omega arith)
-
-form_parts : (f : List ℕ) → number_form f && all_ascii_digits f ≡ true → (number_form f ≡ true) × (all_ascii_digits f ≡ true) × (0 < length f) × (get_or f 0 0 ≡ 48 → length f ≡ 1)
-form_parts f h = (grind (arith, nat_tests), grind (arith, nat_tests), grind (arith, nat_tests), λ e. grind (arith, nat_tests))
-
-pub number_only : (f : List ℕ) (n : ℕ) → number_of f ≡ Some n → (f ≡ decimal n) × (n < 10 ^ 11)
-number_only f n e =
-    let p = number_by (number_form f && all_ascii_digits f) (digits_value 10 f) n e in
-    let q = form_parts f p.0 in
-    let small : digits_value 10 f < 10 ^ 11 = digits_value_short own f 11 q.1 (form_short f q.0) in
-    (sym (decimal-digits_value own f q.1 q.2 q.3 (omega arith)) ∙ ap decimal p.1, omega (arith, p.1))
-
-form_by : (f : List ℕ) → 0 < length f → length f ≤ 11 → (1 < length f → get_or f 0 0 ≡ 48 → ⊥) → number_form f ≡ true
-form_by f a b l = grind (arith, nat_tests)
-
--- more than one digit has no zero in front
-lead : (n : ℕ) → n < 10 ^ 11 → 1 < length (decimal n) → get_or (decimal n) 0 0 ≡ 48 → ⊥
-lead zero h l e = omega (arith, length-decimal-le 1 0 (omega arith) (omega arith) (omega arith))
-lead (suc n) h l e = omega (arith, first_decimal (suc n) (omega arith) (omega arith))
-
-pub number_back : (n : ℕ) → n < 10 ^ 11 → number_of (decimal n) ≡ Some n
-number_back n h =
-    let small : n < 2 ^ 64 = omega arith in
-    let form = form_by (decimal n) (decimal_nonempty n small) (length-decimal-le 11 n (omega arith) h small) (lead n h) in
-    number_is (decimal n) form (digits_decimal own n small) ∙ ap (λ v. Some v) (digits_value-decimal own n small)
-
-pub lacks_number : (b n : ℕ) → (IsInRange 48 57 b → ⊥) → n < 10 ^ 11 → LacksByte b (decimal n)
-lacks_number b n out h = not_in_digits own (decimal n) b (digits_decimal own n (omega arith)) out
 
 -- the weights
 
@@ -96,16 +59,14 @@ weights_back k (w ∷ ws) all few =
 
 -- the line of the weights
 
+-- no weight's digits have a byte that is no digit
+lacks_all : (b : ℕ) (ws : List ℕ) → (IsInRange 48 57 b → ⊥) → AllByRecursion Small ws → AllByRecursion (LacksByte b) (map decimal ws)
+lacks_all b [] out all = tt
+lacks_all b (w ∷ ws) out all = (lacks_number b w out all.0, lacks_all b ws out all.1)
+
 pub split_line : (ws : List ℕ) → AllByRecursion Small ws → 1 ≤ length ws → split 32 (join_with_byte 32 (map decimal ws)) ≡ map decimal ws
 split_line [] all some = absurd (omega arith)
-split_line (w ∷ []) all some = split_none 32 (decimal w) (lacks_number 32 w (λ i. omega arith) all.0)
-split_line (w ∷ v ∷ ws) all some =
-    split_first 32 (decimal w) (join_with_byte 32 (map decimal (v ∷ ws))) (lacks_number 32 w (λ i. omega arith) all.0)
-    ∙ ap (λ fs. decimal w ∷ fs) (split_line (v ∷ ws) all.1 (omega arith))
+split_line (w ∷ ws) all some = split_rejoined 32 (decimal w) (map decimal ws) (lacks_all 32 (w ∷ ws) (λ i. omega arith) all)
 
 pub lacks_line : (ws : List ℕ) → AllByRecursion Small ws → LacksByte 10 (join_with_byte 32 (map decimal ws))
-lacks_line [] all = λ k l e. omega arith
-lacks_line (w ∷ []) all = lacks_number 10 w (λ i. omega arith) all.0
-lacks_line (w ∷ v ∷ ws) all =
-    lacks_append 10 (decimal w) (32 ∷ join_with_byte 32 (map decimal (v ∷ ws))) (lacks_number 10 w (λ i. omega arith) all.0)
-    (lacks_cons 10 32 (join_with_byte 32 (map decimal (v ∷ ws))) (λ e. omega arith) (lacks_line (v ∷ ws) all.1))
+lacks_line ws all = lacks_rejoined 10 32 (map decimal ws) (λ e. omega arith) (lacks_all 10 ws (λ i. omega arith) all)

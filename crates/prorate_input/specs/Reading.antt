@@ -5,7 +5,7 @@ use Rattle.std.specs.Prelude.{ℕ, ◌+◌, Bool, true, false, cond, List, [], �
 use Rattle.std.specs.Option.{ok_or}
 use Rattle.prorate_input.specs.declared.faults.Fault.{Fault}
 use Rattle.prorate_input.specs.declared.faults.Fault.TheVariants.{BadPot, NoSecondLine, BadWeight, TooManyWeights, BytesAfterEnd}
-use Rattle.prorate_input.specs.Words.{number_of, split}
+use Rattle.words.specs.Words.{number_of, split}
 
 -- what `?` does: the first fault, or else what comes next
 abbrev pub and_then : {X Y : Type 0} → Result X Fault → (X → Result Y Fault) → Result Y Fault

@@ -18,6 +18,7 @@ pub enum Fault {
     BytesAfterEnd,
 }
 
+// Kept: written by hand, since `output` promises each message, and thiserror's derive promises nothing of its text.
 impl fmt::Display for Fault {
     ghost output = { λ fault. Some (message fault) };
 

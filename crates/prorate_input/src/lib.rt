@@ -8,7 +8,6 @@
 pub mod faults;
 pub mod inputs;
 pub mod reader;
-mod words;
 
 pub use faults::Fault;
 pub use inputs::Input;

@@ -1,42 +1,35 @@
 // The reader of a whole input.
 ghost use Rattle.std.specs.Prelude.{◌≡◌};
-ghost use Rattle.prorate_input.specs.Words.{following};
+ghost use Rattle.words.specs.Words.{following};
 ghost use Rattle.prorate_input.specs.Reading.{with_weights, at_end, reading};
 ghost use Rattle.prorate_input.specs.Meaning.{meaning};
 ghost use Rattle.prorate_input.specs.Texts.{Exactly, Limited};
 
 use crate::faults::Fault;
 use crate::inputs::{Input, MAX_WEIGHTS};
-use crate::words::{cut, number};
+use arrayvec::ArrayVec;
+use words::{cut, number};
 
 // The pot, with the weights that the second line writes.
 fn read_weights(pot: u64, line: &[u8]) -> Result<Input, Fault>
     ensures { meaning result ≡ with_weights pot line.now }
 {
-    let mut input = Input::without_weights(pot);
-    let mut rest = line;
-    for k in 0..MAX_WEIGHTS {
-        let (field, after) = cut(rest, b' ');
-        let Some(weight) = number(field) else {
-            return Err(Fault::BadWeight(k as u64 + 1));
-        };
-        input.add(weight);
-        let Some(more) = after else {
-            return Ok(input);
-        };
-        rest = more;
+    let mut weights = ArrayVec::new();
+    for field in line.split(|b| *b == b' ') {
+        if weights.is_full() {
+            return Err(Fault::TooManyWeights);
+        }
+        let place = weights.len() as u64 + 1;
+        weights.push(number(field).ok_or(Fault::BadWeight(place))?);
     }
-    Err(Fault::TooManyWeights)
+    Ok(Input { pot, weights })
 }
 
 // Whether nothing follows the second line.
 fn is_end(after: Option<&[u8]>) -> bool
     ensures { result ≡ at_end (following 10 after.entry) }
 {
-    match after {
-        None => true,
-        Some(more) => more.is_empty(),
-    }
+    after.is_none_or(|more| more.is_empty())
 }
 
 // The pot and the weights that an input gives.
@@ -45,10 +38,7 @@ fn read_lines(bytes: &[u8]) -> Result<Input, Fault>
 {
     let (first, rest) = cut(bytes, b'\n');
     let pot = number(first).ok_or(Fault::BadPot)?;
-    let Some(rest) = rest else {
-        return Err(Fault::NoSecondLine);
-    };
-    let (second, after) = cut(rest, b'\n');
+    let (second, after) = cut(rest.ok_or(Fault::NoSecondLine)?, b'\n');
     let input = read_weights(pot, second)?;
     if !is_end(after) {
         return Err(Fault::BytesAfterEnd);

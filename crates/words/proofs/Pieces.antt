@@ -1,7 +1,12 @@
 -- The pieces of a text.
-use Rattle.std.proofs.Common.{◌≡◌, ℕ, zero, suc, ◌+◌, ◌<◌, Bool, true, false, cond, eqb, List, [], ◌∷◌, ◌++◌, length, get_or, take, drop, sym, refl, ap, ◌∙◌, add-one, arith, eq-eqb, ne_eqb, eqb-true}
+use Rattle.std.proofs.Common.{◌≡◌, ℕ, zero, suc, ◌+◌, ◌<◌, ◌≤◌, ltb, Bool, true, false, cond, eqb, List, [], ◌∷◌, ◌++◌, length, get_or, take, drop, Some, None, sym, refl, ap, ◌∙◌, add-one, arith, eq-eqb, ne_eqb, eqb-true}
+use borrow.Author.Tests.{clash}
 use Rattle.std.specs.Str.Iter.{LacksByte}
-use Rattle.std.specs.List.{join_with_byte, AllByRecursion}
+use Rattle.std.specs.List.{join_with_byte, AllByRecursion, position, position_or_len, slice_split, onto_first}
+use Rattle.std.proofs.lemmas.List.Quantifiers.{position-Some}
+use Rattle.std.proofs.lemmas.List.Sums.{fails_before_first}
+use Rattle.std.proofs.lemmas.Bool.Decides.{nat_tests}
+use Rattle.std.proofs.lemmas.Option.{none-some}
 use Rattle.words.specs.Words.{onto, split}
 
 -- the first piece ends before the first mark
@@ -21,6 +26,25 @@ split_none mark (c ∷ s) free =
     let h = split_none mark s (λ k lt. free (suc k) (omega arith)) in
     let n : eqb c mark ≡ false = ne_eqb c mark (free 0 (omega arith)) in
     rw (n, h)
+
+-- the same by what `position` answers
+pub split_at_position : (mark : ℕ) (s : List ℕ) (i : ℕ) → position (λ b. eqb b mark) s ≡ Some i → split mark s ≡ take i s ∷ split mark (drop (i + 1) s)
+split_at_position mark s i e =
+    let first = position-Some (λ b. eqb b mark) s i 0 e in
+    split_at mark s i first.0 (eqb-true _ mark first.1) (λ k lt is. clash (sym (first.2 k lt) ∙ eq-eqb (get_or s k 0) mark is))
+
+-- a byte that stands in the text has a place below its length
+no_cond : (b : Bool) (n : ℕ) → cond b (Some n) None ≡ None → b ≡ false
+no_cond true n e = absurd (none-some n (sym e))
+no_cond false n e = refl
+
+no_place : (mark : ℕ) (s : List ℕ) → ltb (position_or_len (λ b. eqb b mark) s) (length s) ≡ false → LacksByte mark s
+no_place mark s e k lt is =
+    let past : length s ≤ position_or_len (λ b. eqb b mark) s = grind (arith, nat_tests) in
+    clash (sym (fails_before_first (λ b. eqb b mark) s k 0 (omega arith)) ∙ eq-eqb (get_or s k 0) mark is)
+
+pub split_no_position : (mark : ℕ) (s : List ℕ) → position (λ b. eqb b mark) s ≡ None → split mark s ≡ s ∷ []
+split_no_position mark s e = split_none mark s (λ k lt is. no_place mark s (no_cond _ _ e) k lt is)
 
 -- there is always a first piece
 pub first_piece : (mark : ℕ) (s : List ℕ) → (f : List ℕ) × (fs : List (List ℕ)) × (split mark s ≡ f ∷ fs)
@@ -73,3 +97,14 @@ lacks_rejoined b mark [] ne free = λ k l e. omega arith
 lacks_rejoined b mark (f ∷ []) ne free = free.0
 lacks_rejoined b mark (f ∷ g ∷ fs) ne free =
     lacks_append b f (mark ∷ join_with_byte mark (g ∷ fs)) free.0 (lacks_cons b mark (join_with_byte mark (g ∷ fs)) ne (lacks_rejoined b mark (g ∷ fs) ne free.1))
+
+-- std's parts of a slice that is cut at each mark
+onto_is : (c : ℕ) (ps : List (List ℕ)) → onto_first c ps ≡ onto c ps
+onto_is c [] = refl
+onto_is c (p ∷ ps) = refl
+
+pub parts_are_pieces : (mark : ℕ) (s : List ℕ) → slice_split (λ b. eqb b mark) s ≡ split mark s
+parts_are_pieces mark [] = refl
+parts_are_pieces mark (c ∷ s) =
+    ap (λ ps. cond (eqb c mark) ([] ∷ ps) (onto_first c ps)) (parts_are_pieces mark s)
+    ∙ ap (cond (eqb c mark) ([] ∷ split mark s)) (onto_is c (split mark s))

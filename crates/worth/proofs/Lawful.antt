@@ -1,8 +1,8 @@
 -- Every line keeps the laws.
-use Rattle.std.proofs.Common.{◌≡◌, ℕ, ◌-◌, ◌*◌, ◌/◌, ◌<◌, ◌≤◌, true, false, ◌⊎◌, refl, ◌∙◌, inl, inr, ⊎_elim, add-mul, mul-le-mul_left, mul-zero, zero-mul, div-mul-le_self, arith}
+use Rattle.std.proofs.Common.{◌≡◌, ℕ, ◌-◌, ◌*◌, ◌/◌, ◌<◌, ◌≤◌, true, false, refl, add-mul, mul-le-mul_left, mul-zero, zero-mul, div-mul-le_self, arith}
 use native.Mathlib.Nat.{zero-div, lt-div-mul-add}
 use Rattle.std.proofs.lemmas.Nat.{le-div}
-use Rattle.std.proofs.lemmas.Bool.{cases_lt, both_ways}
+use Rattle.std.proofs.lemmas.Bool.{cases_lt}
 use Rattle.std.proofs.lemmas.Bool.Decides.{nat_tests}
 use Rattle.worth.specs.declared.line.Line.{Line}
 use Rattle.worth.specs.declared.line.Line.TheVariants.{UpwardAvailability, UpwardActivation, Downward, OverCost, Opportunity, ExtraFuel, ExtraResource, ExtraWithdrawal}
@@ -11,59 +11,40 @@ use Rattle.worth.specs.Lines.{needs_performance, formula, worth}
 use Rattle.worth.specs.Laws.{Laws, LessThanACentBelow, NeverBoth}
 use Rattle.worth.specs.Quotients.{◌over◌}
 
--- How a worth depends on the factor: in proportion to it, rounded down, or not at all.
-record Proportional (line : Line) : Type 0 where
-  weighs : needs_performance line ≡ true
-  rate : ℕ
-  divisor : ℕ
-  divides : 0 < divisor
-  is : (factor : ℕ) → worth line factor ≡ rate * factor / divisor
-
-record Constant (line : Line) : Type 0 where
-  weighs_not : needs_performance line ≡ false
-  is : (factor other : ℕ) → worth line other ≡ worth line factor
-
-proportional : (line : Line) (rate divisor : ℕ) → needs_performance line ≡ true → 0 < divisor → ((factor : ℕ) → worth line factor ≡ rate * factor / divisor) → Proportional line ⊎ Constant line
-proportional line rate divisor w pos is = inl (record { weighs = w; rate = rate; divisor = divisor; divides = pos; is = is })
-
-constant : (line : Line) → needs_performance line ≡ false → ((factor other : ℕ) → worth line other ≡ worth line factor) → Proportional line ⊎ Constant line
-constant line w is = inr (record { weighs_not = w; is = is })
-
-dependence : (line : Line) → Proportional line ⊎ Constant line
-dependence (UpwardAvailability awarded reserve) = proportional _ (awarded * reserve) 10_000_000 refl (omega arith) (λ _. refl)
-dependence (UpwardActivation marginal energy) = constant _ refl (λ _ _. refl)
-dependence (Downward awarded reserve seconds) = proportional _ (awarded * reserve * seconds) 36_000_000_000 refl (omega arith) (λ _. refl)
-dependence (OverCost variable marginal energy) = constant _ refl (λ _ _. refl)
-dependence (Opportunity variable marginal full energy) = proportional _ ((marginal - variable) * (full - energy)) 10_000_000 refl (omega arith) (λ _. refl)
-dependence (ExtraFuel price dispatched full energy) = constant _ refl (λ _ _. refl)
-dependence (ExtraResource price dispatched full energy) = constant _ refl (λ _ _. refl)
-dependence (ExtraWithdrawal marginal withdrawn without) = constant _ refl (λ _ _. refl)
-
--- a quotient of less is no more
-div_mono : (a b d : ℕ) → 0 < d → a ≤ b → a / d ≤ b / d
-div_mono a b d pos h = le-div (a / d) b d pos (omega (arith, div-mul-le_self a d))
+-- a worth in proportion to the factor falls with it
+scaled : (rate lower factor d : ℕ) → 0 < d → lower ≤ factor → rate * lower / d ≤ rate * factor / d
+scaled rate lower factor d pos h =
+    le-div (rate * lower / d) (rate * factor) d pos (omega (arith, div-mul-le_self (rate * lower) d, mul-le-mul_left rate h))
 
 falls : (line : Line) (factor lower : ℕ) → lower ≤ factor → worth line lower ≤ worth line factor
-falls line factor lower h =
-    ⊎_elim
-    (λ (p : Proportional line).
-    omega (arith, p.is lower, p.is factor, div_mono (p.rate * lower) (p.rate * factor) p.divisor p.divides (mul-le-mul_left p.rate h)))
-    (λ (k : Constant line). omega (arith, k.is factor lower))
-    (dependence line)
+falls (UpwardAvailability awarded reserve) factor lower h = scaled (awarded * reserve) lower factor 10_000_000 (omega arith) h
+falls (UpwardActivation marginal energy) factor lower h = omega arith
+falls (Downward awarded reserve seconds) factor lower h = scaled (awarded * reserve * seconds) lower factor 36_000_000_000 (omega arith) h
+falls (OverCost variable marginal energy) factor lower h = omega arith
+falls (Opportunity variable marginal full energy) factor lower h = scaled ((marginal - variable) * (full - energy)) lower factor 10_000_000 (omega arith) h
+falls (ExtraFuel price dispatched full energy) factor lower h = omega arith
+falls (ExtraResource price dispatched full energy) factor lower h = omega arith
+falls (ExtraWithdrawal marginal withdrawn without) factor lower h = omega arith
 
 nothing : (line : Line) → needs_performance line ≡ true → worth line 0 ≡ 0
-nothing line w =
-    ⊎_elim
-    (λ (p : Proportional line). p.is 0 ∙ rw mul-zero (zero-div p.divisor))
-    (λ (k : Constant line). absurd (both_ways _ k.weighs_not w))
-    (dependence line)
+nothing (UpwardAvailability awarded reserve) w = simp (mul-zero, zero-div)
+nothing (UpwardActivation marginal energy) w = cc
+nothing (Downward awarded reserve seconds) w = simp (mul-zero, zero-div)
+nothing (OverCost variable marginal energy) w = cc
+nothing (Opportunity variable marginal full energy) w = simp (mul-zero, zero-div)
+nothing (ExtraFuel price dispatched full energy) w = cc
+nothing (ExtraResource price dispatched full energy) w = cc
+nothing (ExtraWithdrawal marginal withdrawn without) w = cc
 
 steady : (line : Line) (factor : ℕ) → needs_performance line ≡ false → (other : ℕ) → worth line other ≡ worth line factor
-steady line factor w other =
-    ⊎_elim
-    (λ (p : Proportional line). absurd (both_ways _ w p.weighs))
-    (λ (k : Constant line). k.is factor other)
-    (dependence line)
+steady (UpwardAvailability awarded reserve) factor w other = cc
+steady (UpwardActivation marginal energy) factor w other = refl
+steady (Downward awarded reserve seconds) factor w other = cc
+steady (OverCost variable marginal energy) factor w other = refl
+steady (Opportunity variable marginal full energy) factor w other = cc
+steady (ExtraFuel price dispatched full energy) factor w other = refl
+steady (ExtraResource price dispatched full energy) factor w other = refl
+steady (ExtraWithdrawal marginal withdrawn without) factor w other = refl
 
 -- the divisor of a line within its limits is above 0: an efficiency is at least 1
 divides : (line : Line) (factor : ℕ) → within line ≡ true → 0 < (formula line factor).divisor
@@ -88,20 +69,8 @@ laws line factor =
       rounded = λ h. rounded (formula line factor).numerator (formula line factor).divisor (divides line factor h);
     }
 
--- no excess, no worth
-no_worth : (a b d : ℕ) → a ≡ 0 → 0 < a * b / d → ⊥
-no_worth a b d e h =
-    let zero : a * b / d ≡ 0 = rw e (rw zero-mul (zero-div d)) in
-    omega arith
-
 not_both : (variable marginal energy full injected factor other : ℕ) → 0 < worth (OverCost variable marginal energy) factor → 0 < worth (Opportunity variable marginal full injected) other → ⊥
-not_both variable marginal energy full injected factor other h k =
-    ⊎_elim
-    (λ (lt : variable < marginal). no_worth (variable - marginal) energy 1_000 (omega arith) h)
-    (λ (le : marginal ≤ variable).
-    let none : marginal - variable ≡ 0 = omega arith in
-    no_worth ((marginal - variable) * (full - injected)) other 10_000_000 (rw none (zero-mul (full - injected))) k)
-    (cases_lt variable marginal)
+not_both variable marginal energy full injected factor other h k = grind (arith, zero-mul, zero-div, cases_lt variable marginal)
 
 pub never_both : NeverBoth
 never_both = record { at_the_same_prices = not_both }

@@ -1,2 +1,3 @@
--- Lemmas behind the laws of a line's worth.
+-- Lemmas behind a line's worth: its laws, and that the products of its formulas fit.
 pub mod Lawful
+pub mod Products

@@ -1,15 +1,15 @@
 // What a line is worth: the formula of its kind, rounded down once.
 
-ghost use Rattle.std.specs.Prelude.{◌≡◌, ◌*◌, ◌≤◌, true};
+ghost use Rattle.std.specs.Prelude.{◌≡◌, ◌≤◌, true};
 ghost use Rattle.worth.specs.Laws.{Laws, NeverBoth};
 ghost use Rattle.worth.specs.Limits.{within as line_within};
-ghost use Rattle.worth.specs.Lines.{formula as formula_of, excess as excess_of, answer};
+ghost use Rattle.worth.specs.Lines.{formula as formula_of, answer};
 ghost use Rattle.worth.specs.Performances.{whole};
 
 use crate::limits::HOUR;
 use crate::line::Line;
 use crate::performance::WHOLE;
-use crate::quotient::{Quotient, charge, over};
+use crate::quotient::{Quotient, over};
 
 // kW in a MW, and kWh in a MWh.
 const KILO: u64 = 1_000;
@@ -20,20 +20,18 @@ const THOUSANDTHS: u64 = 1_000;
 impl Line {
     // What the line is worth in cents, rounded down once, with a performance factor in ten-thousandths.
     // No answer where a figure or the factor is outside its limits.
+    #[tactic(auto, using(crate::proofs::Lawful::laws, crate::proofs::Lawful::never_both))]
     pub fn worth(&self, factor: u64) -> Option<u64>
         ensures value { result ≡ answer self.now factor }
         ensures laws { Laws self.now factor }
         ensures never_both { NeverBoth }
     {
-        prove_laws(self, factor);
-        if self.within_limits() && factor <= WHOLE {
-            Some(self.formula(factor).rounded_down())
-        } else {
-            None
-        }
+        (self.within_limits() && factor <= WHOLE).then(|| self.formula(factor).rounded_down())
     }
 
     // The formula of the line's kind, before rounding.
+    // Kept: over 40 lines, since the layout gives each of the 25 figures a line, and a part would need an arm for the other kinds.
+    #[tactic(auto, using(crate::proofs::Products::three, crate::proofs::Products::four))]
     fn formula(&self, factor: u64) -> Quotient
         requires { (line_within self.now ≡ true) × (factor ≤ whole) }
         ensures { result ≡ formula_of self.now factor }
@@ -42,39 +40,32 @@ impl Line {
             Line::UpwardAvailability {
                 awarded_value,
                 reserve,
-            } => {
-                let hour = charge(awarded_value, reserve);
-                over(hour * factor, KILO * WHOLE)
-            }
+            } => over(awarded_value * reserve * factor, KILO * WHOLE),
             Line::UpwardActivation {
                 marginal_cost,
                 energy,
-            } => over(charge(marginal_cost, energy), KILO),
+            } => over(marginal_cost * energy, KILO),
             Line::Downward {
                 awarded_value,
                 reserve,
                 seconds,
-            } => {
-                let instructed = instructed(charge(awarded_value, reserve), seconds);
-                over(instructed * factor, KILO * HOUR * WHOLE)
-            }
+            } => over(
+                awarded_value * reserve * seconds * factor,
+                KILO * HOUR * WHOLE,
+            ),
             Line::OverCost {
                 variable_cost,
                 marginal_cost,
                 energy,
-            } => {
-                let loss = excess(variable_cost, marginal_cost);
-                over(charge(loss, energy), KILO)
-            }
+            } => over(variable_cost.saturating_sub(marginal_cost) * energy, KILO),
             Line::Opportunity {
                 variable_cost,
                 marginal_cost,
                 full_load_energy,
                 energy,
             } => {
-                let gain = excess(marginal_cost, variable_cost);
-                let forgone = charge(gain, full_load_energy - energy);
-                over(forgone * factor, KILO * WHOLE)
+                let gain = marginal_cost.saturating_sub(variable_cost);
+                over(gain * (full_load_energy - energy) * factor, KILO * WHOLE)
             }
             Line::ExtraFuel {
                 fuel_price,
@@ -82,8 +73,8 @@ impl Line {
                 full_load_consumption,
                 energy,
             } => {
-                let extra = excess(dispatched_consumption, full_load_consumption);
-                over(charge(fuel_price, extra) * energy, THOUSANDTHS * KILO)
+                let extra = dispatched_consumption.saturating_sub(full_load_consumption);
+                over(fuel_price * extra * energy, THOUSANDTHS * KILO)
             }
             Line::ExtraResource {
                 operation_price,
@@ -91,9 +82,9 @@ impl Line {
                 full_load_efficiency,
                 energy,
             } => {
-                let lost = excess(full_load_efficiency, dispatched_efficiency);
+                let lost = full_load_efficiency.saturating_sub(dispatched_efficiency);
                 over(
-                    charge(operation_price, lost) * energy,
+                    operation_price * lost * energy,
                     dispatched_efficiency * KILO,
                 )
             }
@@ -101,32 +92,7 @@ impl Line {
                 marginal_cost,
                 withdrawn,
                 withdrawn_without,
-            } => {
-                let extra = withdrawn - withdrawn_without;
-                over(charge(marginal_cost, extra), KILO)
-            }
+            } => over(marginal_cost * (withdrawn - withdrawn_without), KILO),
         }
     }
-}
-
-// A lemma: it does nothing, and `Line::worth` calls it for what it is proved to promise.
-fn prove_laws(line: &Line, factor: u64)
-    ensures laws { Laws line.now factor }
-    ensures never_both { NeverBoth }
-{}
-
-// How far a is above b, 0 where it is not: max(a − b, 0).
-fn excess(a: u64, b: u64) -> u64
-    ensures { result ≡ excess_of a b }
-{
-    a.saturating_sub(b)
-}
-
-// What a reserve costs for an hour times the seconds for which it was instructed.
-fn instructed(charge: u64, seconds: u64) -> u64
-    requires { (charge ≤ 100_000_000_000) × (seconds ≤ 3_600) }
-    ensures value { result ≡ charge * seconds }
-    ensures bound { result ≤ 360_000_000_000_000 }
-{
-    charge * seconds
 }

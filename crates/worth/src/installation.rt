@@ -9,17 +9,28 @@ const HIGHEST_YEARLY_COST: u64 = 10_000_000_000;
 // Months in a year.
 const MONTHS: u128 = 12;
 
-// Whether both costs of a year are within their limits.
-pub fn installation_within_limits(annuity: u64, maintenance: u64) -> bool
-    ensures { result ≡ installation_within annuity maintenance }
-{
-    annuity <= HIGHEST_YEARLY_COST && maintenance <= HIGHEST_YEARLY_COST
+// What an installation costs in a year, in cents.
+#[derive(Clone, Copy)]
+pub struct Installation {
+    // the annuity of the investment
+    pub annuity: u64,
+    // the yearly maintenance
+    pub maintenance: u64,
 }
 
-// What a month of the installation is worth in cents: a twelfth of the annuity and the yearly maintenance,
-// rounded down. Any figures are answered.
-pub fn installation_worth(annuity: u64, maintenance: u64) -> u64
-    ensures { result ≡ worth_of annuity maintenance }
-{
-    ((annuity as u128 + maintenance as u128) / MONTHS) as u64
+impl Installation {
+    // Whether both costs are within their limits.
+    pub fn within_limits(&self) -> bool
+        ensures { result ≡ installation_within self.now.annuity self.now.maintenance }
+    {
+        self.annuity <= HIGHEST_YEARLY_COST && self.maintenance <= HIGHEST_YEARLY_COST
+    }
+
+    // What a month of the installation is worth in cents: a twelfth of the annuity and the yearly maintenance,
+    // rounded down. Any figures are answered.
+    pub fn worth(&self) -> u64
+        ensures { result ≡ worth_of self.now.annuity self.now.maintenance }
+    {
+        ((self.annuity as u128 + self.maintenance as u128) / MONTHS) as u64
+    }
 }

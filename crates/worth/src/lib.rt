@@ -14,10 +14,8 @@ mod shedding;
 #[cfg(test)]
 mod tests;
 
-pub use family::Family;
-pub use installation::{installation_within_limits, installation_worth};
+pub use family::{Family, NoFamily};
+pub use installation::Installation;
 pub use line::Line;
 pub use performance::{Performance, WHOLE};
-pub use shedding::{
-    HIGHEST_FAILURE_COST, UnpaidLimits, paid, shedding_within_limits, shedding_worth,
-};
+pub use shedding::{HIGHEST_FAILURE_COST, Shedding, UnpaidLimits};

@@ -62,6 +62,7 @@ pub enum Line {
 
 impl Line {
     // The number of the line's kind, 1 to 8.
+    // Kept: a method, since `u64::from(line)` would not say which number of a line is meant.
     pub fn kind(&self) -> u64
         ensures { result ≡ kind_of self.now }
     {
@@ -81,12 +82,14 @@ impl Line {
     pub fn allows(&self, family: Family) -> bool
         ensures { result ≡ allows_of self.now family }
     {
-        match (self, family) {
-            (Line::UpwardAvailability { .. }, Family::Voltage) => false,
-            (Line::UpwardActivation { .. }, Family::Voltage) => false,
-            (Line::Downward { .. }, Family::Voltage) => false,
-            (Line::ExtraWithdrawal { .. }, Family::Frequency) => false,
-            _ => true,
+        match family {
+            Family::Frequency => !matches!(self, Line::ExtraWithdrawal { .. }),
+            Family::Voltage => !matches!(
+                self,
+                Line::UpwardAvailability { .. }
+                    | Line::UpwardActivation { .. }
+                    | Line::Downward { .. }
+            ),
         }
     }
 
@@ -94,10 +97,9 @@ impl Line {
     pub fn needs_performance(&self) -> bool
         ensures { result ≡ needs_performance self.now }
     {
-        match self {
-            Line::UpwardAvailability { .. } | Line::Downward { .. } | Line::Opportunity { .. } =>
-                true,
-            _ => false,
-        }
+        matches!(
+            self,
+            Line::UpwardAvailability { .. } | Line::Downward { .. } | Line::Opportunity { .. }
+        )
     }
 }

@@ -1,6 +1,6 @@
 // How well a unit performed in the month, and the factor that its pay is weighted by.
 
-ghost use Rattle.std.specs.Prelude.{◌≡◌, ◌/◌, ◌≤◌};
+ghost use Rattle.std.specs.Prelude.{◌≡◌, ◌≤◌};
 ghost use Rattle.worth.specs.Performances.{achieved as achieved_of, rewarded as rewarded_of, factor as factor_of, within as performance_within, whole};
 
 use crate::family::Family;
@@ -47,7 +47,9 @@ impl Performance {
         ensures { result ≡ achieved_of hours self.now }
     {
         let available = hours.saturating_sub(self.unavailable);
-        quotient(available as u128 * self.activation as u128, hours as u128)
+        (available as u128 * self.activation as u128)
+            .checked_div(hours as u128)
+            .unwrap_or(0)
     }
 }
 
@@ -57,22 +59,9 @@ fn rewarded(family: Family, achieved: u128) -> u64
     ensures at_most_whole { result ≤ whole }
 {
     match family {
-        Family::Frequency => {
-            if achieved >= FREQUENCY_FULL {
-                WHOLE
-            } else if achieved >= FREQUENCY_LEAST {
-                achieved as u64
-            } else {
-                0
-            }
-        }
-        Family::Voltage => { if achieved >= VOLTAGE_FULL { WHOLE } else { 0 } }
+        Family::Frequency if achieved >= FREQUENCY_FULL => WHOLE,
+        Family::Frequency if achieved >= FREQUENCY_LEAST => achieved as u64,
+        Family::Voltage if achieved >= VOLTAGE_FULL => WHOLE,
+        _ => 0,
     }
-}
-
-// The quotient, rounded down; 0 where the divisor is 0.
-fn quotient(numerator: u128, divisor: u128) -> u128
-    ensures { result ≡ numerator / divisor }
-{
-    if divisor == 0 { 0 } else { numerator / divisor }
 }

@@ -1,6 +1,6 @@
-// A worth before and after rounding: products of figures within their limits, and the quotient that is rounded once.
+// A worth before and after rounding.
 
-ghost use Rattle.std.specs.Prelude.{◌≡◌, ◌*◌, ◌<◌, ◌≤◌};
+ghost use Rattle.std.specs.Prelude.{◌≡◌, ◌<◌};
 ghost use Rattle.worth.specs.Quotients.{◌over◌ as over_of, rounded_down as rounded_down_of};
 
 // A worth before it is rounded: numerator ÷ divisor, in cents.
@@ -25,14 +25,4 @@ pub(crate) fn over(numerator: u64, divisor: u64) -> Quotient
     ensures { result ≡ over_of numerator divisor }
 {
     Quotient { numerator, divisor }
-}
-
-// A price times an amount. The bounds are wide enough for every price and amount within its limits, and narrow enough
-// that a product with one figure more fits.
-pub(crate) fn charge(price: u64, amount: u64) -> u64
-    requires { (price ≤ 100_000) × (amount ≤ 1_000_000) }
-    ensures value { result ≡ price * amount }
-    ensures bound { result ≤ 100_000_000_000 }
-{
-    price * amount
 }

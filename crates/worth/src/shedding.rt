@@ -1,10 +1,10 @@
 // Sheddings of load at a point of withdrawal: which are paid, and what one is worth.
 
 ghost use Rattle.std.specs.Prelude.{◌≡◌};
-ghost use Rattle.worth.specs.Sheddings.{paid as paid_of, within as shedding_within, answer};
+ghost use Rattle.worth.specs.Sheddings.{paid, within as shedding_within, answer};
 
 use crate::limits::HOUR;
-use crate::quotient::{charge, over};
+use crate::quotient::over;
 
 // The highest failure cost, in cents for a kWh that is not served.
 pub const HIGHEST_FAILURE_COST: u64 = 10_000;
@@ -24,30 +24,37 @@ pub struct UnpaidLimits {
     pub seconds: u64,
 }
 
-// Whether a shedding is paid, from the point's count of sheddings and their summed seconds, this one included.
-pub fn paid(count: u64, seconds: u64, limits: UnpaidLimits) -> bool
-    ensures { result ≡ paid_of count seconds limits }
-{
-    if count <= limits.count {
-        return false;
+impl UnpaidLimits {
+    // Whether a shedding is paid, from the point's count of sheddings and their summed seconds, this one included.
+    pub fn pays(&self, count: u64, seconds: u64) -> bool
+        ensures { result ≡ paid count seconds self.now }
+    {
+        count > self.count && seconds >= self.seconds
     }
-    seconds >= limits.seconds
 }
 
-// Whether load and duration are within their limits. The failure cost is no figure of a shedding but of the month.
-pub fn shedding_within_limits(kw: u64, seconds: u64) -> bool
-    ensures { result ≡ shedding_within kw seconds }
-{
-    kw <= HIGHEST_LOAD && seconds <= LONGEST
+// A shedding of load. The failure cost is no figure of a shedding but of the month.
+#[derive(Clone, Copy)]
+pub struct Shedding {
+    // the load shed, in kW
+    pub kw: u64,
+    // how long it was shed
+    pub seconds: u64,
 }
 
-// What a paid shedding is worth in cents, rounded down. No answer where a figure is outside its limits.
-pub fn shedding_worth(failure_cost: u64, kw: u64, seconds: u64) -> Option<u64>
-    ensures { result ≡ answer failure_cost kw seconds }
-{
-    if failure_cost <= HIGHEST_FAILURE_COST && shedding_within_limits(kw, seconds) {
-        Some(over(charge(failure_cost, kw) * seconds, HOUR).rounded_down())
-    } else {
-        None
+impl Shedding {
+    // Whether load and duration are within their limits.
+    pub fn within_limits(&self) -> bool
+        ensures { result ≡ shedding_within self.now.kw self.now.seconds }
+    {
+        self.kw <= HIGHEST_LOAD && self.seconds <= LONGEST
+    }
+
+    // What a paid shedding is worth in cents, rounded down. No answer where a figure is outside its limits.
+    pub fn worth(&self, failure_cost: u64) -> Option<u64>
+        ensures { result ≡ answer failure_cost self.now.kw self.now.seconds }
+    {
+        let within_limits = failure_cost <= HIGHEST_FAILURE_COST && self.within_limits();
+        within_limits.then(|| over(failure_cost * self.kw * self.seconds, HOUR).rounded_down())
     }
 }

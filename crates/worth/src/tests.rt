@@ -2,90 +2,8 @@
 
 use crate::*;
 
-// One line of each kind, as worked by hand in docs/WORTH.md.
-#[test]
-fn lines_worked_by_hand(rt: HostRuntime) {
-    let cases = [
-        (
-            Line::UpwardAvailability {
-                awarded_value: 2_000,
-                reserve: 50_000,
-            },
-            9_000,
-            90_000,
-        ),
-        (
-            Line::UpwardActivation {
-                marginal_cost: 4_500,
-                energy: 333,
-            },
-            0,
-            1_498,
-        ),
-        (
-            Line::Downward {
-                awarded_value: 2_000,
-                reserve: 50_000,
-                seconds: 1_800,
-            },
-            10_000,
-            50_000,
-        ),
-        (
-            Line::OverCost {
-                variable_cost: 6_000,
-                marginal_cost: 4_500,
-                energy: 30_001,
-            },
-            0,
-            45_001,
-        ),
-        (
-            Line::Opportunity {
-                variable_cost: 4_500,
-                marginal_cost: 6_000,
-                full_load_energy: 40_000,
-                energy: 30_000,
-            },
-            10_000,
-            15_000,
-        ),
-        (
-            Line::ExtraFuel {
-                fuel_price: 1_200,
-                dispatched_consumption: 260,
-                full_load_consumption: 240,
-                energy: 30_001,
-            },
-            0,
-            720,
-        ),
-        (
-            Line::ExtraResource {
-                operation_price: 3_000,
-                dispatched_efficiency: 400,
-                full_load_efficiency: 500,
-                energy: 8_000,
-            },
-            0,
-            6_000,
-        ),
-        (
-            Line::ExtraWithdrawal {
-                marginal_cost: 4_500,
-                withdrawn: 12_345,
-                withdrawn_without: 2_000,
-            },
-            0,
-            46_552,
-        ),
-    ];
-    for (line, factor, cents) in cases {
-        assert_eq!(rt; line.worth(factor), Some(cents));
-    }
-}
-
 // The line of a kind with its figures in their order; a kind of fewer figures leaves the last ones out.
+// Kept: over 40 lines, since the layout gives each of the 25 figures a line.
 fn line(kind: u64, figures: [u64; 4]) -> Line {
     let [a, b, c, d] = figures;
     match kind {
@@ -130,6 +48,24 @@ fn line(kind: u64, figures: [u64; 4]) -> Line {
             withdrawn: b,
             withdrawn_without: c,
         },
+    }
+}
+
+// Kind, figures, factor, cents: one line of each kind, as worked by hand in docs/WORTH.md.
+#[test]
+fn lines_worked_by_hand(rt: HostRuntime) {
+    let cases = [
+        (1, [2_000, 50_000, 0, 0], 9_000, 90_000),
+        (2, [4_500, 333, 0, 0], 0, 1_498),
+        (3, [2_000, 50_000, 1_800, 0], 10_000, 50_000),
+        (4, [6_000, 4_500, 30_001, 0], 0, 45_001),
+        (5, [4_500, 6_000, 40_000, 30_000], 10_000, 15_000),
+        (6, [1_200, 260, 240, 30_001], 0, 720),
+        (7, [3_000, 400, 500, 8_000], 0, 6_000),
+        (8, [4_500, 12_345, 2_000, 0], 0, 46_552),
+    ];
+    for (kind, figures, factor, cents) in cases {
+        assert_eq!(rt; line(kind, figures).worth(factor), Some(cents));
     }
 }
 
@@ -225,12 +161,16 @@ fn kinds_and_families(rt: HostRuntime) {
         assert_eq!(rt; line.allows(Family::Voltage), voltage);
         assert_eq!(rt; line.needs_performance(), performance);
     }
-    assert_eq!(rt; Family::numbered(0), None);
-    assert_eq!(rt; Family::numbered(1), Some(Family::Frequency));
-    assert_eq!(rt; Family::numbered(2), Some(Family::Voltage));
-    assert_eq!(rt; Family::numbered(3), None);
-    assert_eq!(rt; Family::Frequency.number(), 1);
-    assert_eq!(rt; Family::Voltage.number(), 2);
+}
+
+#[test]
+fn numbers_of_families(rt: HostRuntime) {
+    assert_eq!(rt; Family::try_from(0), Err(NoFamily));
+    assert_eq!(rt; Family::try_from(1), Ok(Family::Frequency));
+    assert_eq!(rt; Family::try_from(2), Ok(Family::Voltage));
+    assert_eq!(rt; Family::try_from(3), Err(NoFamily));
+    assert_eq!(rt; u64::from(Family::Frequency), 1);
+    assert_eq!(rt; u64::from(Family::Voltage), 2);
 }
 
 // Hours of the month, unavailable hours, activation, and the factor in family 1 and in family 2.
@@ -259,58 +199,77 @@ fn performance_factors(rt: HostRuntime) {
         assert_eq!(rt; performance.factor(hours, Family::Frequency), frequency);
         assert_eq!(rt; performance.factor(hours, Family::Voltage), voltage);
     }
-    assert!(rt;
-        Performance {
-            unavailable: 720,
-            activation: 10_000,
-        }
-        .within_limits(720)
-    );
-    assert!(rt;
-        !Performance {
-            unavailable: 721,
-            activation: 10_000,
-        }
-        .within_limits(720)
-    );
-    assert!(rt;
-        !Performance {
-            unavailable: 720,
-            activation: 10_001,
-        }
-        .within_limits(720)
-    );
 }
 
+// Unavailable hours, activation, and whether they are within their limits in a month of 720 hours.
+#[test]
+fn performance_limits(rt: HostRuntime) {
+    let cases = [
+        (720, 10_000, true),
+        (721, 10_000, false),
+        (720, 10_001, false),
+    ];
+    for (unavailable, activation, within) in cases {
+        let performance = Performance {
+            unavailable,
+            activation,
+        };
+        assert_eq!(rt; performance.within_limits(720), within);
+    }
+}
+
+// Annuity, maintenance and the worth of a month; and whether the two are within their limits.
 #[test]
 fn installations(rt: HostRuntime) {
-    assert_eq!(rt; installation_worth(1_200_000, 60_007), 105_000);
-    assert_eq!(rt;
-        installation_worth(10_000_000_000, 10_000_000_000),
-        1_666_666_666
-    );
-    assert_eq!(rt;
-        installation_worth(u64::MAX, u64::MAX),
-        3_074_457_345_618_258_602
-    );
-    assert!(rt; installation_within_limits(10_000_000_000, 10_000_000_000));
-    assert!(rt; !installation_within_limits(10_000_000_001, 0));
-    assert!(rt; !installation_within_limits(0, 10_000_000_001));
+    let cases = [
+        (1_200_000, 60_007, 105_000),
+        (10_000_000_000, 10_000_000_000, 1_666_666_666),
+        (u64::MAX, u64::MAX, 3_074_457_345_618_258_602),
+    ];
+    for (annuity, maintenance, cents) in cases {
+        let installation = Installation {
+            annuity,
+            maintenance,
+        };
+        assert_eq!(rt; installation.worth(), cents);
+    }
+    let limits = [
+        (10_000_000_000, 10_000_000_000, true),
+        (10_000_000_001, 0, false),
+        (0, 10_000_000_001, false),
+    ];
+    for (annuity, maintenance, within) in limits {
+        let installation = Installation {
+            annuity,
+            maintenance,
+        };
+        assert_eq!(rt; installation.within_limits(), within);
+    }
 }
 
-// With 4 sheddings and 36,000 seconds to bear unpaid; and failure cost, kW, seconds and worth.
+// With 4 sheddings and 36,000 seconds to bear unpaid: which is paid.
 #[test]
-fn sheddings(rt: HostRuntime) {
+fn unpaid_sheddings(rt: HostRuntime) {
     let limits = UnpaidLimits {
         count: 4,
         seconds: 36_000,
     };
-    assert!(rt; paid(5, 36_000, limits));
-    assert!(rt; !paid(5, 35_999, limits));
-    assert!(rt; !paid(4, 36_000, limits));
-    assert!(rt; shedding_within_limits(1_000_000, 86_400));
-    assert!(rt; !shedding_within_limits(1_000_001, 0));
-    assert!(rt; !shedding_within_limits(0, 86_401));
+    assert!(rt; limits.pays(5, 36_000));
+    assert!(rt; !limits.pays(5, 35_999));
+    assert!(rt; !limits.pays(4, 36_000));
+}
+
+// kW, seconds and whether they are within their limits; and failure cost, kW, seconds and worth.
+#[test]
+fn sheddings(rt: HostRuntime) {
+    let limits = [
+        (1_000_000, 86_400, true),
+        (1_000_001, 0, false),
+        (0, 86_401, false),
+    ];
+    for (kw, seconds, within) in limits {
+        assert_eq!(rt; Shedding { kw, seconds }.within_limits(), within);
+    }
     let cases = [
         (1_500, 2_000, 1_801, Some(1_500_833)),
         (10_000, 1_000_000, 86_400, Some(240_000_000_000)),
@@ -320,6 +279,6 @@ fn sheddings(rt: HostRuntime) {
         (0, 0, 86_401, None),
     ];
     for (failure_cost, kw, seconds, worth) in cases {
-        assert_eq!(rt; shedding_worth(failure_cost, kw, seconds), worth);
+        assert_eq!(rt; Shedding { kw, seconds }.worth(failure_cost), worth);
     }
 }

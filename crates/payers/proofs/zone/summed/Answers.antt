@@ -1,6 +1,6 @@
-use Rattle.std.proofs.Common.{◌≡◌, ◌+◌, ◌-◌, ◌<◌, true, length, get_or, take, sum, sym, ap, ◌∙◌, arith}
-use Rattle.std.proofs.lemmas.Bool.Decides.{nat_tests}
-use Rattle.payers.specs.Bases.{is_company}
+use Rattle.std.proofs.Common.{◌≡◌, ◌+◌, length, get_or, take, sum, sym, ap, ◌∙◌, arith}
+use Rattle.numbered.specs.Entries.{with_entry}
+use Rattle.payers.specs.Bases.{weight_of}
 use Rattle.payers.specs.Zones.{zone_weights}
 use Rattle.payers.proofs.ReadingLists.{no_reading}
 use Rattle.payers.proofs.ZoneWeights.{added, weights_none, weights_more, weights_all, weights_long, weights_total, weights_light, weight_fits}
@@ -10,18 +10,13 @@ use Rattle.payers.proofs.zone.summed.Goals.{in-Some, in_default}
 pub loop-reading-init : goal.loop-reading-init
 loop-reading-init g c = sym (weights_none (g.O.Owners.owner c.args.owners.now) c.args.zone)
 
-pub add-requires : goal.add-requires
-add-requires g c =
+pub overflow_add-injected : goal.overflow_add-injected
+overflow_add-injected g c =
     let s = c.args.owners.now in
     let zone = c.args.zone in
-    let rs = c.args.readings.now in
-    let i = c.loop-reading.reading-index in
     let company = c.in-Some.company in
-    let one : is_company company ≡ true = g.met.O.Owners.company s (get_or rs i no_reading).unit zone company (sym c.in-Some.ensures) in
-    let below : company - 1 < 32 = grind (arith, nat_tests) in
-    let same = ap (λ ws. get_or ws (company - 1) 0) c.loop-reading.invariant in
-    let fits = weight_fits (g.O.Owners.owner s) zone (g.met.O.Owners.company s) rs i (company - 1) c.requires c.loop-reading-test.true below in
-    record { company_value = one; more_bound = omega (arith, same, fits) }
+    let here = ap (λ ws. weight_of ws company) c.loop-reading.invariant in
+    omega (arith, here, weight_fits (g.O.Owners.owner s) zone (g.met.O.Owners.company s) c.args.readings.now c.loop-reading.reading-index company c.requires c.loop-reading-test.true)
 
 pub loop-reading-preserved : goal.loop-reading-preserved
 loop-reading-preserved g c =
@@ -34,9 +29,9 @@ loop-reading-preserved g c =
     let here : added c.loop-reading.kwh r.kwh (o r.unit zone) ≡ zone_weights o zone (take (i + 1) rs) =
     ap (λ ws. added ws r.kwh (o r.unit zone)) c.loop-reading.invariant
     ∙ weights_more o zone rs i c.loop-reading-test.true (g.met.O.Owners.company s r.unit zone) in
-    elim c.match-payer.branch [
-      | in-Some w ↦ w.kwh-is ∙ w.add.ensures ∙ ap (added c.loop-reading.kwh r.kwh) w.in-Some.ensures ∙ here
-      | in_default w ↦ w.kwh-is ∙ ap (added c.loop-reading.kwh r.kwh) (sym w.in_default.is ∙ c.payer.ensures) ∙ here
+    elim c.match-owner_in.branch [
+      | in-Some w ↦ w.kwh-is ∙ w.set_entry.ensures ∙ ap (λ e. with_entry 32 c.loop-reading.kwh w.in-Some.company (e + r.kwh)) w.entry_of.ensures ∙ ap (added c.loop-reading.kwh r.kwh) w.in-Some.ensures ∙ here
+      | in_default w ↦ w.kwh-is ∙ ap (added c.loop-reading.kwh r.kwh) (sym w.in_default.is ∙ c.owner_in.ensures) ∙ here
     ]
 
 pub invariant_of-result : goal.invariant_of-result

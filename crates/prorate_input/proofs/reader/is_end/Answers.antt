@@ -1,12 +1,15 @@
 -- Nothing follows where what follows is empty.
-use Rattle.std.proofs.Common.{sym, ap, ◌∙◌}
-use Rattle.prorate_input.specs.Words.{following}
+use Rattle.std.proofs.Common.{◌≡◌, ℕ, Bool, true, List, eqb, length, Some, None, Option, sym, ◌∙◌, rules}
+use Rattle.std.specs.Borrow.{Bor}
+use Rattle.std.specs.Option.{MatchOption}
+use Rattle.words.specs.Words.{following}
 use Rattle.prorate_input.specs.Reading.{at_end}
 use Rattle.prorate_input.proofs.Steps.{split_end}
 use Rattle.prorate_input.proofs.reader.is_end.Goals as goal
 
-pub returns-in-Some : goal.returns-in-Some
-returns-in-Some c =
-    c.is_empty.ensures
-    ∙ sym (split_end 10 c.in-Some.more.now)
-    ∙ ap (λ o. at_end (following 10 o)) (sym c.in-Some.is)
+ended : (o : Option (Bor (List ℕ))) (P : Bor (List ℕ) → Type 0) (b : Bool) → MatchOption o (b ≡ true) P → ((s : Bor (List ℕ)) → P s → b ≡ eqb (length s.now) 0) → b ≡ at_end (following 10 o)
+ended None P b h same = h
+ended (Some s) P b h same = same s h ∙ sym (split_end 10 s.now)
+
+pub returns : goal.returns
+returns c = ended c.args.after _ c.is_none_or.result c.is_none_or.ensures (λ s called. search rules)

@@ -1,40 +1,70 @@
--- A turn takes one field from what is left to what is done.
-use Rattle.std.proofs.Common.{◌≡◌, ◌+◌, ◌<◌, [], ◌∷◌, ◌++◌, length, take, Ok, sym, ap, ◌∙◌, arith, length-set, rules}
-use Rattle.std.proofs.lemmas.List.{take_more_set}
-use Rattle.prorate_input.specs.Words.{following}
-use Rattle.prorate_input.specs.Reading.{and_then, weights_from}
-use Rattle.prorate_input.proofs.Steps.{after, turn_good, too_many}
+-- A turn takes one field to one weight.
+use Rattle.std.proofs.Common.{◌≡◌, ◌+◌, ◌<◌, ◌≤◌, [], ◌∷◌, ◌++◌, map, eqb, length, drop, Ok, Err, append_assoc, append-nil, length-append, refl, sym, ap, subst, ◌∙◌, arith, rules}
+use Rattle.std.proofs.lemmas.Bool.Decides.{nat_tests}
+use Rattle.std.proofs.lemmas.Iterator.{YieldsList}
+use Rattle.std.proofs.lemmas.Iterator.Splits.{YieldsList-from_slice_split}
+use Rattle.std.proofs.lemmas.Iterator.Consumers.{YieldsList-so_far, YieldsList-turn, YieldsList-end, YieldsList-at}
+use Rattle.std.specs.Option.{ok_or}
+use Rattle.std.proofs.lemmas.List.{map-append}
+use Rattle.prorate_input.specs.declared.faults.Fault.TheVariants.{BadWeight}
+use Rattle.words.specs.Words.{number_of, split}
+use Rattle.words.proofs.Pieces.{parts_are_pieces}
+use Rattle.prorate_input.specs.Reading.{and_then, weights_from, with_weights}
+use Rattle.prorate_input.proofs.Steps.{after, turn_bad, turn_good, too_many, parted}
+use Rattle.prorate_input.proofs.reader.read_weights.Given as given
 use Rattle.prorate_input.proofs.reader.read_weights.Goals as goal
-use Rattle.prorate_input.proofs.reader.read_weights.Goals.{After-add}
+use Rattle.prorate_input.proofs.reader.read_weights.Goals.{After-into_iter-field-iterator, In-Some}
 
--- the weights with the one that is added
-added : (c : goal.After-add) → take c.add.new.self.count c.add.new.self.weights ≡ take c.loop-k.input.count c.loop-k.input.weights ++ c.in-Some.weight ∷ []
-added c =
-    let room : c.loop-k.input.count < length c.loop-k.input.weights = omega arith in
-    ap (λ n. take n c.add.new.self.weights) c.add.ensures.count
-    ∙ ap (take (c.loop-k.input.count + 1)) c.add.ensures.weights
-    ∙ take_more_set c.loop-k.input.weights c.loop-k.input.count c.in-Some.weight room
+-- the fields come in their order
+road : (c : After-into_iter-field-iterator) → YieldsList given.iterator-loop-field.next_gives (λ x. x.now) c.into_iter-field-iterator.result (split 32 c.args.line.now)
+road c =
+    let whole : YieldsList given.iterator-loop-field.next_gives (λ x. x.now) c.split-field-items.result _ =
+    YieldsList-from_slice_split _ (λ b. eqb b 32) c.args.line.now c.split-field-items.ensures.rest c.split-field-items.ensures.done c.split-field-items.ensures.closure (λ x b q called. search rules) in
+    subst (YieldsList given.iterator-loop-field.next_gives (λ x. x.now) c.into_iter-field-iterator.result) (parts_are_pieces 32 c.args.line.now) (YieldsList-at c.into_iter-field-iterator.ensures.into_iter_gives whole)
 
-pub returns-in_default-after : goal.returns-in_default-after
-returns-in_default-after c = let more = added (goal.at.returns-in_default-after c).After-add in search rules
+-- the fields so far, the field of this turn, and the others
+turn : (c : In-Some) → split 32 c.args.line.now ≡ map (λ x. x.now) c.loop-field.yielded ++ c.in-Some.field.now ∷ drop (length c.loop-field.yielded + 1) (split 32 c.args.line.now)
+turn c =
+    let r = road (goal.at.In-Some c).After-into_iter-field-iterator in
+    let t = YieldsList-turn r c.loop-field.yielded _ c.loop-field.yielded_by _ _ c.in-Some.field c.in-Some.is c.next.ensures.steps in
+    parted (split 32 c.args.line.now) _ (length c.loop-field.yielded) c.in-Some.field.now (YieldsList-so_far r c.loop-field.yielded _ c.loop-field.yielded_by) t.0 t.1
 
-pub loop-k-preserved : goal.loop-k-preserved
-loop-k-preserved c =
-    let done = take c.loop-k.input.count c.loop-k.input.weights in
-    let fs = following 32 c.cut.result.1 in
-    let more = added (goal.at.loop-k-preserved c).After-add in (
-      c.add.ensures.pot ∙ c.loop-k.invariant.0,
-      omega arith,
-      ap length c.add.ensures.weights ∙ simp length-set c.loop-k.invariant.2,
-      c.loop-k.invariant.3
-          ∙ ap (λ ps. after done (weights_from (c.loop-k.k + 1) ps)) (sym c.cut.ensures)
-          ∙ turn_good c.loop-k.k c.cut.result.0.now fs (omega arith) c.in-Some.weight done (sym c.in-Some.ensures)
-          ∙ ap (λ d. after d (weights_from (c.loop-k.k + 1 + 1) fs)) (sym more)
-          ∙ ap (λ o. after (take c.add.new.self.count c.add.new.self.weights) (weights_from (c.loop-k.k + 1 + 1) (following 32 o))) c.in-Some-after.is,
+-- so the weights of the line are those so far, and those of this field and the others
+whole : (c : In-Some) → weights_from 1 (split 32 c.args.line.now) ≡ after c.loop-field.weights.items (weights_from (length c.loop-field.weights.items + 1) (c.in-Some.field.now ∷ drop (length c.loop-field.yielded + 1) (split 32 c.args.line.now)))
+whole c = ap (weights_from 1) (turn c) ∙ c.loop-field.invariant.3 (c.in-Some.field.now ∷ drop (length c.loop-field.yielded + 1) (split 32 c.args.line.now))
+
+pub returns-then-is_full : goal.returns-then-is_full
+returns-then-is_full c =
+    let all = whole (goal.at.returns-then-is_full c).In-Some in
+    let full : 48 ≤ length c.loop-field.weights.items = grind (arith, nat_tests) in
+    let many = too_many (length c.loop-field.weights.items) c.in-Some.field.now (drop (length c.loop-field.yielded + 1) (split 32 c.args.line.now)) full in
+    sym (ap (λ m. and_then m (λ ws. Ok (c.args.pot, ws))) (all ∙ ap (after c.loop-field.weights.items) many))
+
+pub returns-in_err-ok_or : goal.returns-in_err-ok_or
+returns-in_err-ok_or c =
+    let all = whole (goal.at.returns-in_err-ok_or c).In-Some in
+    let few : length c.loop-field.weights.items < 48 = grind (arith, nat_tests) in
+    let said : ok_or (number_of c.in-Some.field.now) (BadWeight (length c.loop-field.weights.items + 1)) ≡ Err c.in_err-ok_or.field-0.0 = search rules in
+    let bad = turn_bad (length c.loop-field.weights.items) c.in-Some.field.now (drop (length c.loop-field.yielded + 1) (split 32 c.args.line.now)) few c.in_err-ok_or.field-0.0 said in
+    let end : with_weights c.args.pot c.args.line.now ≡ Err c.in_err-ok_or.field-0.0 = ap (λ m. and_then m (λ ws. Ok (c.args.pot, ws))) (all ∙ ap (after c.loop-field.weights.items) bad) in
+    search rules
+
+pub loop-field-preserved : goal.loop-field-preserved
+loop-field-preserved c =
+    let few : length c.loop-field.weights.items < 48 = grind (arith, nat_tests) in
+    let said : ok_or (number_of c.in-Some.field.now) (BadWeight (length c.loop-field.weights.items + 1)) ≡ Ok c.in_ok-ok_or.field-0 = search rules in (
+      search rules,
+      tt,
+      c.push.ensures.len ∙ ap (λ n. n + 1) c.loop-field.invariant.2 ∙ sym (simp length-append refl),
+      λ fs. rw (c.push.ensures.len, c.push.ensures.items) (
+          ap (λ done. weights_from 1 (done ++ fs)) (map-append (λ x. x.now) c.loop-field.yielded (c.in-Some.field ∷ []))
+          ∙ ap (weights_from 1) (append_assoc (map (λ x. x.now) c.loop-field.yielded) (c.in-Some.field.now ∷ []) fs)
+          ∙ c.loop-field.invariant.3 (c.in-Some.field.now ∷ fs)
+          ∙ turn_good (length c.loop-field.weights.items) c.in-Some.field.now fs few c.in_ok-ok_or.field-0 c.loop-field.weights.items said),
     )
 
 pub returns : goal.returns
 returns c =
-    let many = too_many c.loop-k.k c.loop-k.rest.now (omega arith) in
-    let whole = c.loop-k.invariant.3 ∙ ap (after (take c.loop-k.input.count c.loop-k.input.weights)) many in
-    sym (ap (λ m. and_then m (λ ws. Ok (c.args.pot, ws))) whole)
+    let end = YieldsList-end (road (goal.at.returns c).After-into_iter-field-iterator) c.loop-field.yielded _ c.loop-field.yielded_by _ _ c.in-None.is c.next.ensures.steps in
+    let all = ap (weights_from 1) (sym end.0 ∙ sym (append-nil _)) ∙ c.loop-field.invariant.3 [] in
+    ap (λ ws. Ok (c.args.pot, ws)) (sym (append-nil c.loop-field.weights.items)) ∙ sym (ap (λ m. and_then m (λ ws. Ok (c.args.pot, ws))) all)

@@ -1,27 +1,30 @@
-use Rattle.std.proofs.Common.{◌+◌, sym, arith}
-use Rattle.payers.specs.Moved.{part_next, part_small, part_all}
+use Rattle.std.proofs.Common.{rules, ◌<◌, ◌^◌, sum_by, sym, ◌∙◌, arith}
+use Rattle.std.specs.List.{range_with_len}
+use Rattle.std.proofs.lemmas.Iterator.{YieldsList-from_map}
+use Rattle.std.proofs.lemmas.Iterator.Consumers.{YieldsList-at, sum_by_from_yields_List, fits_by_from_yields_list}
+use Rattle.payers.specs.Replacements.{part_moved, weight_moved}
+use Rattle.payers.specs.Moved.{part_small, moved_weight}
+use Rattle.payers.proofs.CompanyNumbers.{YieldsList-from_inclusive}
 use Rattle.payers.proofs.replacement.ReplacementPayerBase.weight.Goals as goal
 
-pub overflow_add-weight : goal.overflow_add-weight
-overflow_add-weight g c =
+pub sum-requires-clause-fits : goal.sum-requires-clause-fits
+sum-requires-clause-fits g c =
     let s = c.args.self.now in
     let ps = s.replacements.participants in
     let ws = g.B.PayerBase.weights s.base in
-    let below = g.met.B.PayerBase.based s.base in
-    omega (
-      arith,
-      part_next ps ws c.args.company c.loop-k.k,
-      part_small ps ws below.long c.args.company (c.loop-k.k + 1) (omega arith),
-      below.light,
-    )
-
-pub loop-k-preserved : goal.loop-k-preserved
-loop-k-preserved g c =
-    let s = c.args.self.now in
-    omega (arith, part_next s.replacements.participants (g.B.PayerBase.weights s.base) c.args.company c.loop-k.k)
+    let based = g.met.B.PayerBase.based s.base in
+    let part = part_moved ps ws c.args.company in
+    let fits : sum_by part (range_with_len 1 32) < 2 ^ 64 = omega (arith, part_small ps ws based.long c.args.company 32 (omega arith), based.light) in
+    fits_by_from_yields_list part (range_with_len 1 32) _ _
+    (YieldsList-from_map _ part (YieldsList-at c.map.ensures.source (YieldsList-from_inclusive 1 32 c.new.result c.new.ensures.start c.new.ensures.end c.new.ensures.exhausted (omega arith))) c.map.ensures.closure (λ x r q called. search rules)) fits
 
 pub returns : goal.returns
+unfolding weight_moved
 returns g c =
     let s = c.args.self.now in
-    let there = sym c.if-not-is_company.ensures in
-    part_all s.replacements.participants (g.B.PayerBase.weights s.base) c.args.company c.loop-k.k c.loop-k.weight there (omega arith) c.loop-k.invariant
+    let ps = s.replacements.participants in
+    let ws = g.B.PayerBase.weights s.base in
+    let part = part_moved ps ws c.args.company in
+    sum_by_from_yields_List part (range_with_len 1 32) c.map.result _ c.sum.ensures.ran
+    (YieldsList-from_map _ part (YieldsList-at c.map.ensures.source (YieldsList-from_inclusive 1 32 c.new.result c.new.ensures.start c.new.ensures.end c.new.ensures.exhausted (omega arith))) c.map.ensures.closure (λ x r q called. search rules))
+    ∙ sym (moved_weight ps ws c.args.company (sym c.if-not-is_numbered.ensures))

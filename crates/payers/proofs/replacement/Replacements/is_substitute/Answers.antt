@@ -1,19 +1,14 @@
-use Rattle.std.proofs.Common.{◌≡◌, count_by, sym, subst, arith}
+use Rattle.std.proofs.Common.{rules, arith, ◌∙◌}
 use Rattle.std.specs.List.{range_with_len}
-use Rattle.payers.specs.Replacements.{takes_part_for}
-use Rattle.payers.specs.Substitutes.{substitute_some, substitute_next, substitute_none}
+use Rattle.std.proofs.lemmas.Iterator.Search.{any_from_yields_List}
+use Rattle.payers.specs.Replacements.{takes_part_for, is_substitute}
+use Rattle.payers.specs.Substitutes.{any_counted}
+use Rattle.payers.proofs.CompanyNumbers.{YieldsList-from_inclusive}
 use Rattle.payers.proofs.replacement.Replacements.is_substitute.Goals as goal
 
-pub returns-then-takes_part_for : goal.returns-then-takes_part_for
-returns-then-takes_part_for c =
-    sym (substitute_some c.args.self.now.participants c.args.company c.loop-k.k (omega arith) (sym c.if-takes_part_for.ensures))
-
-pub loop-k-preserved : goal.loop-k-preserved
-loop-k-preserved c =
-    substitute_next c.args.self.now.participants c.args.company c.loop-k.k c.loop-k.invariant (sym c.if-takes_part_for.ensures)
-
 pub returns : goal.returns
+unfolding is_substitute
 returns c =
-    let ps = c.args.self.now.participants in
-    let all : c.loop-k.k ≡ 32 = omega arith in
-    sym (substitute_none ps c.args.company (subst (λ n. count_by (takes_part_for ps c.args.company) (range_with_len 1 n) ≡ 0) all c.loop-k.invariant))
+    let test = takes_part_for c.args.self.now.participants c.args.company in
+    any_from_yields_List test _ _ _ c.any.ensures.ran (YieldsList-from_inclusive 1 32 c.new.result c.new.ensures.start c.new.ensures.end c.new.ensures.exhausted (omega arith)) (λ x b q called. search rules)
+    ∙ any_counted test (range_with_len 1 32)

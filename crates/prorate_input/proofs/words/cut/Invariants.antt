@@ -1,6 +1,0 @@
--- No byte so far is the mark.
-use Rattle.std.proofs.Common.{◌≡◌, ℕ, ◌<◌, get_or}
-use Rattle.prorate_input.proofs.words.cut.Given as goal
-
-abbrev pub invariant-loop-i : goal.invariant-loop-i
-invariant-loop-i l = (k : ℕ) → k < l.i → get_or l.s k 0 ≡ l.mark → ⊥
