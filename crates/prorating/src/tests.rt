@@ -148,6 +148,6 @@ fn too_many_or_too_large_weights_make_no_list(rt: HostRuntime) -> Result<(), Fai
         Ok(_) => return Err(Fail::new("a total above the limit made a list")),
         Err(refusal) => assert_eq!(rt; refusal, Refusal::Total),
     }
-    assert_eq!(rt; (Refusal::Place.number(), Refusal::Total.number()), (2, 2));
+    assert_eq!(rt; (u8::from(Refusal::Place), u8::from(Refusal::Total)), (2, 2));
     Ok(())
 }
