@@ -1,11 +1,10 @@
 -- Arrays that a closure makes, of the numbers below n or of the elements of a list: what each call may be given, and what they give.
-use Rattle.std.specs.Prelude.{◌≡◌, ℕ, zero, suc, ◌+◌, ◌-◌, ◌<◌, List, [], ◌∷◌, map, length, slice_index, slice_index_or, get_or}
+use Rattle.std.specs.Prelude.{◌≡◌, ℕ, zero, suc, ◌+◌, ◌<◌, List, [], ◌∷◌, map, length, slice_index}
 use Rattle.std.specs.List.{range_with_len}
 use Rattle.std.specs.Array.{MapsFrom, IsMapOf, index_steps, list_steps}
 use Rattle.std.specs.Iterator.{CallableAtEachTurn, AlwaysYields}
 use Rattle.std.specs.Fn.{Called}
 use Rattle.std.proofs.Common.{refl, sym, subst, ap, zero-add, ◌∙◌, arith}
-use Rattle.std.proofs.lemmas.Iterator.{YieldsList}
 use Rattle.std.proofs.lemmas.Iterator.Adapters.{serves_from_places}
 use Rattle.std.proofs.lemmas.List.{length-map, get_or-map, get_or_default}
 use Rattle.std.proofs.lemmas.List.FromFn.{length-range_with_len, get_or-range_with_len}

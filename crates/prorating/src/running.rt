@@ -36,7 +36,7 @@ impl Rule for Running {
         let mut weight = 0;
         let mut given = 0;
         for (k, own) in weights.each().iter().enumerate() {
-            weight += *own;
+            weight += own;
             let part = shared.floor(weight);
             shares[k] = part - given;
             given = part;

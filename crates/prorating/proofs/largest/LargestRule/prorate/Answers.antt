@@ -1,4 +1,4 @@
-use Rattle.std.proofs.Common.{rules, ◌≡◌, ◌+◌, ◌*◌, ◌/◌, ◌%◌, ◌<◌, ◌≤◌, ltb, sym, length, arith, sum, ◌∙◌, true, map, ap, get_or, ℕ, ◌-◌, subst, List, cond}
+use Rattle.std.proofs.Common.{rules, ◌≡◌, ◌+◌, ◌*◌, ◌/◌, ◌%◌, ◌<◌, ◌≤◌, sym, length, arith, sum, ◌∙◌, map, ap, get_or, ℕ, ◌-◌, List, cond}
 use Rattle.std.specs.Prelude.{slice_index, nat_lt}
 use Rattle.std.specs.List.{range_with_len}
 use Rattle.numbered.specs.Made.{made_by}
@@ -7,10 +7,8 @@ use Rattle.std.proofs.lemmas.Iterator.{YieldsList-from_slice}
 use Rattle.std.proofs.lemmas.Iterator.Consumers.{fits_from_yields_list, sum_from_yields_List}
 use Rattle.prorating.specs.Weights.{Weighed, limit}
 use Rattle.prorating.specs.Largest.{rank, largest, floors, remainders, odd_cent, largest_share, cents_left}
-use Rattle.prorating.specs.Laws.{is_shared}
-use Rattle.prorating.specs.Counts.{bit_small}
-use Rattle.prorating.specs.SharedBy.{shared_map, shared_small, shared_some, shared_none, shared_or_not}
-use Rattle.prorating.specs.OddCents.{floors_long, floors_small, largest_remainders}
+use Rattle.prorating.specs.SharedBy.{shared_map, shared_some, shared_none}
+use Rattle.prorating.specs.OddCents.{floors_small, largest_remainders}
 use Rattle.prorating.proofs.Made.{mapped_by, serves_each, serves_below}
 use Rattle.prorating.proofs.largest.LargestRule.prorate.Goals as goal
 use Rattle.prorating.proofs.largest.LargestRule.prorate.Goals.{After-from_fn, After-each-each, After-map-floors, After-map-remainders}
