@@ -22,7 +22,9 @@ fn rank(remainders: &[u64; PLACES], k: usize) -> u64
     requires { k < 48 }
     ensures { result ≡ rank_of remainders.now k }
 {
-    (0..PLACES).filter(|j| comes_before(remainders, *j, k)).count() as u64
+    (0..PLACES)
+        .filter(|j| comes_before(remainders, *j, k))
+        .count() as u64
 }
 
 // The odd cent of a rank: the lowest ranks get one each, as many as cents are left.

@@ -52,9 +52,11 @@ overflow_sub-left c =
     omega (arith, floors_fit (goal.at.overflow_sub-left c).After-map-floors)
 
 pub from_fn-requires : goal.from_fn-requires
-from_fn-requires c =
-    (omega arith, serves_below (λ x q called. search rules) 48 (λ k h.
-    let small : get_or c.map-floors.result k 0 ≤ limit = omega (arith, get_or-le-sum_by (λ x. x) c.map-floors.result k 0 (omega (arith, c.map-floors.ensures.items.long)), floors_fit (goal.at.from_fn-requires c).After-map-floors, c.in-Some.shared.small, c.in-Some.ensures.1) in search rules))
+from_fn-requires c = (
+  omega arith,
+  serves_below (λ x q called. search rules) 48 (λ k h.
+      let small : get_or c.map-floors.result k 0 ≤ limit = omega (arith, get_or-le-sum_by (λ x. x) c.map-floors.result k 0 (omega (arith, c.map-floors.ensures.items.long)), floors_fit (goal.at.from_fn-requires c).After-map-floors, c.in-Some.shared.small, c.in-Some.ensures.1) in search rules),
+)
 
 pub returns-in_default-clause-meant : goal.returns-in_default-clause-meant
 returns-in_default-clause-meant c =
