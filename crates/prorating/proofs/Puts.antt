@@ -6,7 +6,7 @@ use Rattle.std.proofs.lemmas.Bool.Decides.{nat_tests}
 use Rattle.std.proofs.lemmas.List.{length-take, take_all, length-replicate, get_or-replicate, get_or_past, get_or-take, get_or_append_left, get_or-append_right, get_or-set_same, get_or-set_other}
 use Rattle.prorating.specs.declared.refusal.Refusal.{Refusal}
 use Rattle.prorating.specs.declared.refusal.Refusal.TheVariants.{Total}
-use Rattle.prorating.specs.Weights.{limit, is_place, with_weight, put_answer, put_after, padded, of_refusal}
+use Rattle.prorating.specs.Weights.{limit, is_place, weight_at, with_weight, put_answer, put_after, padded, of_refusal}
 use Rattle.prorating.specs.Counts.{same_places}
 
 -- a list and its padding have the same at each place, and the same total
@@ -84,3 +84,10 @@ made_whole ws at k few all is light =
     let whole : at ≡ padded ws = is ∙ ap padded (take_all k ws all) in
     let total : sum at ≡ sum ws = ap sum whole ∙ padded_sum ws in
     (grind (arith, nat_tests), whole)
+
+-- the weight at a place is that at its index
+pub weight_at_index : (ws : List ℕ) (k : ℕ) → k < 48 → weight_at ws (k + 1) ≡ get_or ws k 0
+weight_at_index ws k h =
+    let place : is_place (k + 1) ≡ true = grind (arith, nat_tests) in
+    let index : k + 1 - 1 ≡ k = omega arith in
+    cond-true (is_place (k + 1)) _ _ place ∙ ap (λ i. get_or ws i 0) index

@@ -3,10 +3,7 @@ use Rattle.std.specs.Prelude.{◌≡◌, ℕ, Bool, cond, length, replicate, sum
 use Rattle.std.proofs.lemmas.Bool.{cond_both}
 use Rattle.prorating.specs.Laws.{Sharing, Keeps, Near}
 
-abbrev pub chosen : (ℕ → Bool) → Sharing → Sharing → Sharing
-chosen test one other pot ws = cond (test pot) (one pot ws) (other pot ws)
-
-pub chosen_keeps : (test : ℕ → Bool) (one other : Sharing) → Keeps one → Keeps other → Keeps (chosen test one other)
+pub chosen_keeps : (test : ℕ → Bool) (one other : Sharing) → Keeps one → Keeps other → Keeps (λ pot ws. cond (test pot) (one pot ws) (other pot ws))
 chosen_keeps test one other k l =
     record {
       long = λ pot ws w. cond_both (test pot) _ _ (λ shares. length shares ≡ 48) (λ _. k.long pot ws w) (λ _. l.long pot ws w);
