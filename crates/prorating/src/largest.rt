@@ -32,7 +32,7 @@ fn odd_cent(rank: u64, left: u64) -> u64
     ensures value { result ≡ (if nat_lt rank left then 1 else 0) }
     ensures small { result ≤ 1 }
 {
-    if rank < left { 1 } else { 0 }
+    u64::from(rank < left)
 }
 
 // Every share is rounded down, and the cents left go one each to the largest remainders, of equal ones to the lower number.
