@@ -1,1 +1,1 @@
--- The crate has no definitions of its own.
+pub mod Mixed

@@ -2,13 +2,7 @@
 
 #![tactic(auto)]
 
-ghost use Rattle.std.specs.Prelude.{◌≡◌, length, replicate, if◌then◌else◌, sum, nat_le, slice_index};
-ghost use Rattle.prorating.specs.Largest.{largest};
-ghost use Rattle.prorating.specs.Running.{running};
-ghost use Rattle.std.proofs.lemmas.Bool.{cond_both};
-ghost use Rattle.prorating.specs.PartsTo.{running_keeps};
-ghost use Rattle.prorating.specs.OddCents.{largest_keeps};
-ghost use Rattle.prorating.specs.Laws.{Near};
+ghost use Rattle.customer_rule.specs.Mixed.{mixed, mixed_keeps};
 
 use prorating::largest::Largest;
 use prorating::rule::Rule;
@@ -24,32 +18,17 @@ pub struct Mixed {
 }
 
 impl Rule for Mixed {
-    ghost shares = { λ rule pot ws. (if nat_le pot rule.threshold then running pot ws else largest pot ws) };
+    ghost shares = { λ rule. mixed rule.threshold };
 
-    ghost long = { λ rule pot ws w.
-        cond_both (nat_le pot rule.threshold) (running pot ws) (largest pot ws) (λ shares. length shares ≡ 48)
-        (λ _. running_keeps.long pot ws w)
-        (λ _. largest_keeps.long pot ws w) };
+    ghost long = { λ rule. (mixed_keeps rule.threshold).long };
 
-    ghost nothing = { λ rule pot ws w none.
-        cond_both (nat_le pot rule.threshold) (running pot ws) (largest pot ws) (λ shares. shares ≡ replicate 48 0)
-        (λ _. running_keeps.nothing pot ws w none)
-        (λ _. largest_keeps.nothing pot ws w none) };
+    ghost nothing = { λ rule. (mixed_keeps rule.threshold).nothing };
 
-    ghost whole = { λ rule pot ws w shared.
-        cond_both (nat_le pot rule.threshold) (running pot ws) (largest pot ws) (λ shares. sum shares ≡ pot)
-        (λ _. running_keeps.whole pot ws w shared)
-        (λ _. largest_keeps.whole pot ws w shared) };
+    ghost whole = { λ rule. (mixed_keeps rule.threshold).whole };
 
-    ghost near = { λ rule pot ws k w shared h.
-        cond_both (nat_le pot rule.threshold) (running pot ws) (largest pot ws) (λ shares. Near pot (sum ws) (slice_index ws k) (slice_index shares k))
-        (λ _. running_keeps.near pot ws k w shared h)
-        (λ _. largest_keeps.near pot ws k w shared h) };
+    ghost near = { λ rule. (mixed_keeps rule.threshold).near };
 
-    ghost weightless = { λ rule pot ws k w h none.
-        cond_both (nat_le pot rule.threshold) (running pot ws) (largest pot ws) (λ shares. slice_index shares k ≡ 0)
-        (λ _. running_keeps.weightless pot ws k w h none)
-        (λ _. largest_keeps.weightless pot ws k w h none) };
+    ghost weightless = { λ rule. (mixed_keeps rule.threshold).weightless };
 
     fn prorate(&self, pot: u64, weights: &Weights) -> [u64; PLACES] {
         if pot <= self.threshold {

@@ -9,67 +9,38 @@ mod tests;
 use prorate_input::{Fault, Input, read};
 use prorating::refusal::Refusal;
 use prorating::weights::{LIMIT, PLACES, Weights};
+use std::io;
 use std::io::Read;
 use std::process::ExitCode;
-use std::{fmt, io};
 use table::{Table, Unshared};
+use thiserror::Error;
 
 // The longest input that is read, in bytes.
 const LONGEST: usize = 65_536;
 
 // Why nothing is printed.
-#[derive(Drop)]
+#[derive(Debug, Drop, Error)]
 enum Failure {
-    Io(io::Error),
+    #[error("the input cannot be read, or the output cannot be written")]
+    Io(#[from] io::Error),
+    #[error("the input is longer than {longest} bytes", longest = LONGEST)]
     TooLong,
-    Input(Fault),
-    Weights(Refusal),
-    Unshared(Unshared),
+    #[error(transparent)]
+    Input(#[from] Fault),
+    #[error("there are more than {places} weights", places = PLACES)]
+    TooManyWeights,
+    #[error("the weights add up to more than {limit}", limit = LIMIT)]
+    WeightsTooLarge,
+    #[error(transparent)]
+    Unshared(#[from] Unshared),
 }
 
-impl From<io::Error> for Failure {
-    fn from(e: io::Error) -> Failure {
-        Failure::Io(e)
-    }
-}
-
-impl From<Fault> for Failure {
-    fn from(e: Fault) -> Failure {
-        Failure::Input(e)
-    }
-}
-
+// The weights are put at places 1, 2 and so on.
 impl From<Refusal> for Failure {
-    fn from(e: Refusal) -> Failure {
-        Failure::Weights(e)
-    }
-}
-
-impl From<Unshared> for Failure {
-    fn from(e: Unshared) -> Failure {
-        Failure::Unshared(e)
-    }
-}
-
-impl fmt::Display for Failure {
-    fn fmt<W: fmt::Write>(&self, f: &mut fmt::Formatter<W>) -> fmt::Result {
-        match self {
-            Failure::Io(_) => write!(
-                f,
-                "the input cannot be read, or the output cannot be written"
-            ),
-            Failure::TooLong => write!(f, "the input is longer than {LONGEST} bytes"),
-            Failure::Input(fault) => write!(f, "{fault}"),
-            Failure::Weights(Refusal::Place) => write!(f, "there are more than {PLACES} weights"),
-            Failure::Weights(Refusal::Total) => write!(
-                f,
-                "the weights add up to more than {LIMIT}"
-            ),
-            Failure::Unshared(Unshared::PotTooLarge) => write!(f, "the pot is above {LIMIT}"),
-            Failure::Unshared(Unshared::NoWeight) => write!(
-                f,
-                "all weights are 0, so nobody can be charged the pot"
-            ),
+    fn from(refusal: Refusal) -> Failure {
+        match refusal {
+            Refusal::Place => Failure::TooManyWeights,
+            Refusal::Total => Failure::WeightsTooLarge,
         }
     }
 }
@@ -86,10 +57,9 @@ fn input(rt: &HostRuntime) -> Result<Input, Failure> {
 
 // A line for each weight: its number, the weight, and its share by each rule; then the totals.
 fn print(rt: &HostRuntime, input: &Input, weights: &Weights, table: &Table) -> io::Result<()> {
-    for (k, weight) in input.weights().iter().enumerate() {
-        let number = k + 1;
-        let running = table.running.shares[k];
-        let largest = table.largest.shares[k];
+    let shares = table.running.shares.iter().zip(&table.largest.shares);
+    let lines = input.weights().iter().zip(shares);
+    for (number, (weight, (running, largest))) in (1..=PLACES).zip(lines) {
         println!(rt; "{number} {weight} {running} {largest}")?;
     }
     let total = weights.total();

@@ -8,13 +8,16 @@ use prorating::prorated::prorated;
 use prorating::rule::Rule;
 use prorating::running::Running;
 use prorating::weights::{LIMIT, PLACES, Weights};
+use thiserror::Error;
 
 // Why a pot is not shared.
-#[derive(Clone, Copy, Debug, PartialEq)]
+#[derive(Clone, Copy, Debug, PartialEq, Error)]
 pub enum Unshared {
     // The pot is above the limit.
+    #[error("the pot is above {limit}", limit = LIMIT)]
     PotTooLarge,
     // The pot is above 0, and all weights are 0.
+    #[error("all weights are 0, so nobody can be charged the pot")]
     NoWeight,
 }
 

@@ -17,10 +17,10 @@ const CASES: [(u64, [u64; 2], Result<(u64, u64), Unshared>); 6] = [
 fn a_pot_is_shared_whole_or_not_at_all(rt: HostRuntime) -> Result<(), Fail> {
     for (pot, weights, expected) in CASES {
         let weights = Weights::of(&weights)?;
-        let totals = match Table::of(pot, &weights) {
-            Ok(table) => Ok((table.running.total, table.largest.total)),
-            Err(unshared) => Err(unshared),
-        };
+        let totals = Table::of(pot, &weights).map(|table| (
+            table.running.total,
+            table.largest.total,
+        ));
         assert_eq!(rt; totals, expected);
     }
     Ok(())

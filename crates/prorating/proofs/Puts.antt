@@ -1,6 +1,6 @@
--- A weight that is put at a place: its index, and the new total.
+-- Weights that are put one after another: the list so far, and why one is refused.
 use Rattle.std.proofs.Common.{◌≡◌, ℕ, zero, suc, ◌+◌, ◌-◌, ◌<◌, ◌≤◌, true, cond, leb, List, length, get_or, take, set, replicate, is_ok, Some, None, Ok, Err, sum, sym, refl, ap, ◌∙◌, ⊎_elim, arith, length-append, length-set}
-use Rattle.std.proofs.lemmas.List.Sums.{sum_by-cons, sum_by-append, sum_by-take-le, get_or-le-sum_by, sum_by-set}
+use Rattle.std.proofs.lemmas.List.Sums.{sum_by-cons, sum_by-append, sum_by-take-le}
 use Rattle.std.proofs.lemmas.Bool.{cases_eq, cases_lt, cond-true}
 use Rattle.std.proofs.lemmas.Bool.Decides.{nat_tests}
 use Rattle.std.proofs.lemmas.List.{length-take, take_all, length-replicate, get_or-replicate, get_or_past, get_or-take, get_or_append_left, get_or-append_right, get_or-set_same, get_or-set_other}
@@ -8,22 +8,6 @@ use Rattle.prorating.specs.declared.refusal.Refusal.{Refusal}
 use Rattle.prorating.specs.declared.refusal.Refusal.TheVariants.{Total}
 use Rattle.prorating.specs.Weights.{limit, is_place, weight_at, with_weight, put_answer, put_after, padded, of_refusal}
 use Rattle.prorating.specs.Counts.{same_places}
-
--- an index that was found is that of a place
-pub record Placed (place index : ℕ) : Type 0 where
-  pub there : is_place place ≡ true
-  pub at : index ≡ place - 1
-  pub below : index < 48
-
-pub placed : (place index : ℕ) → Some index ≡ cond (is_place place) (Some (place - 1)) None → Placed place index
-placed place index e = record { there = grind (arith, nat_tests); at = grind (arith, nat_tests); below = grind (arith, nat_tests) }
-
-module _ (ws : List ℕ) (i : ℕ) (inside : i < length ws) where
-  pub weight_within : get_or ws i 0 ≤ sum ws
-  weight_within = get_or-le-sum_by (λ x. x) ws i 0 inside
-
-  pub put_total : (weight : ℕ) → sum (set ws i weight) ≡ sum ws - get_or ws i 0 + weight
-  put_total weight = omega (arith, sum_by-set (λ x. x) ws i weight 0 inside, weight_within)
 
 -- a list and its padding have the same at each place, and the same total
 pub padded_long : (ws : List ℕ) → length ws ≤ 48 → length (padded ws) ≡ 48

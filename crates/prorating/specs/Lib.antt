@@ -1,5 +1,6 @@
 pub mod Weights
 pub mod Laws
+pub mod Chosen
 pub mod Shares
 pub mod Running
 pub mod Largest

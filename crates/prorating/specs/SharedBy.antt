@@ -22,7 +22,7 @@ pub shared_or_not : (pot : ℕ) (ws : List ℕ) → is_shared pot ws ≡ true �
 shared_or_not pot ws shares none = let z : ◌≡◌ {A = ℕ} 0 1 = cc in omega arith
 
 module _ (f : ℕ → ℕ) (pot : ℕ) (ws : List ℕ) where
-  shared_map : is_shared pot ws ≡ true → shared_by f pot ws ≡ map f (range_with_len 0 (length ws))
+  pub shared_map : is_shared pot ws ≡ true → shared_by f pot ws ≡ map f (range_with_len 0 (length ws))
   unfolding shared_by
   shared_map shares = cond-true _ _ _ shares
 

@@ -7,6 +7,7 @@ use crate::rule::Rule;
 use crate::running::Running;
 use crate::weights::{PLACES, Weights};
 
+// Kept: an enum, since a script hands the chosen rule on, and a function that hands out a `dyn` is refused.
 #[derive(Clone, Copy)]
 pub enum BuiltIn {
     Running,

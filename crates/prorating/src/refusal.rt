@@ -1,6 +1,6 @@
 // What a weight list refuses.
 ghost use Rattle.std.specs.Prelude.{◌≡◌};
-ghost use Rattle.prorating.specs.Weights.{number as number_of};
+ghost use Rattle.prorating.specs.Weights.{number};
 
 #[derive(Clone, Copy, Debug, PartialEq)]
 pub enum Refusal {
@@ -10,14 +10,13 @@ pub enum Refusal {
     Total,
 }
 
-impl Refusal {
-    // The refusal's number, as in docs/REFUSALS.md.
-    pub fn number(&self) -> u8
-        ensures { result ≡ number_of self.now }
-    {
-        match self {
-            Refusal::Place => 2,
-            Refusal::Total => 2,
+// The refusal's number, as in docs/REFUSALS.md.
+impl From<Refusal> for u8 {
+    ghost from_gives = { λ refusal n. n ≡ number refusal };
+
+    fn from(refusal: Refusal) -> u8 {
+        match refusal {
+            Refusal::Place | Refusal::Total => 2,
         }
     }
 }

@@ -4,8 +4,8 @@ ghost use Rattle.prorating.specs.Laws.{is_shared as is_shared_of};
 ghost use Rattle.prorating.specs.Running.{running, RunningSums};
 ghost use Rattle.prorating.specs.PartsTo.{running_keeps};
 
-use crate::parts::floor;
-use crate::rule::{Rule, is_shared};
+use crate::parts::SharedPot;
+use crate::rule::Rule;
 use crate::weights::{PLACES, Weights};
 
 // A place gets the difference of two parts of the pot, each rounded down: that of the places up to it, and that of the places before it.
@@ -29,16 +29,15 @@ impl Rule for Running {
         ensures meant { result ≡ running pot weights.now.at }
         ensures sums { is_shared_of pot weights.now.at ≡ true → RunningSums pot weights.now.at result }
     {
+        let Some(shared) = SharedPot::of(pot, weights) else {
+            return [0; PLACES];
+        };
         let mut shares = [0; PLACES];
-        if !is_shared(pot, weights) {
-            return shares;
-        }
-        let total = weights.total();
         let mut weight = 0;
         let mut given = 0;
-        for k in 0..PLACES {
-            weight += weights.at(k);
-            let part = floor(pot, weight, total);
+        for (k, own) in weights.each().iter().enumerate() {
+            weight += own;
+            let part = shared.floor(weight);
             shares[k] = part - given;
             given = part;
         }

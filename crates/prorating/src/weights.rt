@@ -1,8 +1,9 @@
 // The weight list: a weight for each of 48 places. No list has a total above the limit.
-ghost use Rattle.std.specs.Prelude.{◌≡◌, ◌+◌, ◌-◌, ◌<◌, ◌≤◌, length, replicate, if◌then◌else◌, Some, None, sum, MatchResult, nat_le, slice_index};
-ghost use Rattle.prorating.specs.Weights.{limit, is_place, weight_at, put_answer, put_after, padded, of_refusal};
+ghost use Rattle.std.specs.Prelude.{◌≡◌, ◌+◌, ◌≤◌, length, replicate, Some, None, sum, MatchResult, nat_le};
+ghost use Rattle.prorating.specs.Weights.{limit, weight_at, put_answer, put_after, padded, of_refusal};
 
 use crate::refusal::Refusal;
+use numbered::{entry_of, index_of};
 
 // How many places there are. They are numbered 1 to 48.
 pub const PLACES: usize = 48;
@@ -18,17 +19,6 @@ pub struct Weights {
     ghost long: { length at ≡ 48 },
     ghost summed: { total ≡ sum at },
     ghost light: { total ≤ limit },
-}
-
-// Where a place stands in the list; None where the number is none of 1 to 48.
-fn index_of(place: u64) -> Option<usize>
-    ensures { result ≡ (if is_place place then Some (place - 1) else None) }
-{
-    if 1 <= place && place <= 48 {
-        Some(place as usize - 1)
-    } else {
-        None
-    }
 }
 
 // Whether a weight joins the others within the limit.
@@ -75,18 +65,14 @@ impl Weights {
     pub fn weight(&self, place: u64) -> u64
         ensures { result ≡ weight_at self.now.at place }
     {
-        match index_of(place) {
-            Some(index) => self.at[index],
-            None => 0,
-        }
+        entry_of(&self.at, place, 0)
     }
 
-    // The weight at an index.
-    pub(crate) fn at(&self, index: usize) -> u64
-        requires { index < 48 }
-        ensures { result ≡ slice_index self.now.at index }
+    // The weights, that of place 1 first.
+    pub(crate) fn each(&self) -> &[u64; PLACES]
+        ensures { result.now ≡ self.now.at }
     {
-        self.at[index]
+        &self.at
     }
 
     // Puts a weight at a place and drops the one that was there.
@@ -94,9 +80,7 @@ impl Weights {
         ensures answered { result ≡ put_answer self.old.at place weight }
         ensures after { self.new.at ≡ put_after self.old.at place weight }
     {
-        let Some(index) = index_of(place) else {
-            return Err(Refusal::Place);
-        };
+        let index = index_of(place, PLACES).ok_or(Refusal::Place)?;
         let others = self.total - self.at[index];
         if !joins(others, weight) {
             return Err(Refusal::Total);

@@ -1,21 +1,19 @@
-use Rattle.std.proofs.Common.{◌≡◌, length, sym, ap, ◌∙◌, arith}
-use Rattle.prorating.specs.Largest.{comes_before}
-use Rattle.prorating.specs.Counts.{bit, count_to, sum_to_more}
-use Rattle.prorating.specs.Ranks.{rank_counts}
+use Rattle.std.proofs.Common.{◌≡◌, ◌∙◌, ℕ, ap, rules, tests, length, refl, arith}
+use Rattle.std.specs.Prelude.{count_by}
+use Rattle.std.specs.List.{range_with_len}
+use Rattle.std.proofs.lemmas.Iterator.{YieldsList-from_range}
+use Rattle.std.proofs.lemmas.Iterator.Consumers.{YieldsList-from_filter, count_from_yields_List}
+use Rattle.std.proofs.lemmas.List.Sums.{length-filter}
+use Rattle.prorating.specs.Largest.{comes_before, rank}
 use Rattle.prorating.proofs.largest.rank.Goals as goal
-use Rattle.prorating.proofs.largest.rank.Goals.{then-comes_before, else-comes_before}
-
-pub loop-j-preserved : goal.loop-j-preserved
-loop-j-preserved c =
-    let more = sum_to_more (λ j. bit (comes_before c.args.remainders.now j c.args.k)) c.loop-j.j in
-    let said = ap bit c.comes_before.ensures in
-    elim c.if-comes_before.branch [
-      | then-comes_before w ↦ omega (arith, more, said, w.before-is, ap bit w.if-comes_before.true)
-      | else-comes_before w ↦ omega (arith, more, said, w.before-is, ap bit w.if-comes_before.false)
-    ]
 
 pub returns : goal.returns
+unfolding rank
 returns c =
     let rs = c.args.remainders.now in
-    let end : c.loop-j.j ≡ length rs = omega arith in
-    c.loop-j.invariant.0 ∙ ap (count_to (λ j. comes_before rs j c.args.k)) end ∙ sym (rank_counts rs c.args.k)
+    let first = λ (j : ℕ). comes_before rs j c.args.k in
+    let long : 48 ≡ length rs = omega arith in
+    count_from_yields_List c.filter.result c.count.result c.count.ensures.ran
+    (YieldsList-from_filter _ first (YieldsList-from_range 0 48 48 c.filter.ensures.source refl) c.filter.ensures.closure (λ x b q called. search (rules, tests)))
+    ∙ length-filter first (range_with_len 0 48)
+    ∙ ap (λ n. count_by first (range_with_len 0 n)) long
