@@ -6,7 +6,7 @@ use Rattle.std.proofs.lemmas.Bool.{cases_eq, and_parts, not-true, ltb-false}
 use Rattle.std.proofs.lemmas.Bool.Decides.{nat_tests}
 use Rattle.prorating.specs.Weights.{limit}
 use Rattle.tables.specs.Accounts.{Held, is_credited}
-use Rattle.tables.specs.Entries.{is_numbered}
+use Rattle.numbered.specs.Entries.{is_numbered}
 
 module _ (xs : List ℕ) (i x : ℕ) (inside : i < length xs) where
   pub more_sum : sum (set xs i (get_or xs i 0 + x)) ≡ sum xs + x

@@ -1,7 +1,7 @@
 -- What the companies earned, and the pots that pay for it.
 use Rattle.std.specs.Prelude.{ℕ, zero, suc, ◌+◌, Bool, cond, not, ◌&&◌, ◌||◌, List, [], ◌∷◌, ◌++◌, length, replicate, Some, None, Option, ◌==◌, nat_le, nat_lt}
 use Rattle.prorating.specs.Weights.{limit}
-use Rattle.tables.specs.Entries.{is_numbered, entry, with_entry}
+use Rattle.numbered.specs.Entries.{is_numbered, entry, with_entry}
 
 -- A pot: its cents, and the weights of the companies that pay it.
 pub record Pot : Type 0 where

@@ -10,7 +10,7 @@ use Rattle.tables.specs.Points.{Points}
 
 -- The units that are registered.
 abbrev pub listed : UnitTable → List UnitRow
-listed t = take t.count t.rows
+listed t = t.rows.items
 
 abbrev pub points_of : PointTable → Points
 points_of t = record { points = t.points; sheddings = t.sheddings }

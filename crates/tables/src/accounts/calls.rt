@@ -2,11 +2,11 @@
 ghost use Rattle.std.specs.Prelude.{◌≡◌, ◌≤◌, length, if◌then◌else◌, Some, None, MatchOption, nat_le};
 ghost use Rattle.prorating.specs.Weights.{limit};
 ghost use Rattle.tables.specs.Accounts.{nothing_held, pot_at, passes as passes_limit, is_credited as is_credited_in, has_room as has_room_in, entered, with_pot, shed as shed_in};
-ghost use Rattle.tables.specs.Entries.{entry};
+ghost use Rattle.numbered.specs.Entries.{entry};
 ghost use Rattle.tables.specs.Tables.{shed_pot, held};
 
 use super::{Accounts, SERVICES, SHED_POTS, ShedPot};
-use crate::numbered::index_of;
+use numbered::{entry_of, index_of};
 use payers::base::COMPANIES;
 use payers::zone::ZoneHour;
 use prorating::weights::LIMIT;
@@ -40,20 +40,14 @@ impl Accounts {
         ensures is { result ≡ entry 32 0 (held self.now).earned company }
         ensures small { result ≤ limit }
     {
-        match index_of(company, 32) {
-            Some(index) => self.earned[index],
-            None => 0,
-        }
+        entry_of(&self.earned, company, 0)
     }
 
     // What the pot of a service has to pay: 1 frequency, 2 voltage, 3 installations; 0 for any other number.
     pub fn service(&self, service: u64) -> u64
         ensures { result ≡ entry 3 0 (held self.now).services service }
     {
-        match index_of(service, 3) {
-            Some(index) => self.services[index],
-            None => 0,
-        }
+        entry_of(&self.services, service, 0)
     }
 
     // The pot of a shedding, the first at 0; None where there are no more.
