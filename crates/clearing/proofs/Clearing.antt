@@ -12,7 +12,7 @@ use Rattle.prorating.specs.Counts.{sum_to, places_sum, sum_to_same}
 use Rattle.prorating.proofs.Puts.{padded_sum, padded_at}
 use Rattle.payers.specs.Bases.{is_company}
 use Rattle.payers.specs.Runs.{sum_next}
-use Rattle.tables.specs.Entries.{entry}
+use Rattle.numbered.specs.Entries.{entry}
 use Rattle.clearing.specs.Clearing.{payment, paid, received, Clears}
 use Rattle.clearing.specs.Payments.{still, row, rows, with_payments}
 use Rattle.clearing.proofs.Due.{less_at, less_sum, still_weighed, row_long, rows_long}

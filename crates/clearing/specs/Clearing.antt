@@ -2,7 +2,7 @@
 use Rattle.std.specs.Prelude.{◌≡◌, ℕ, ◌+◌, ◌-◌, ◌*◌, true, ◌⊎◌, List, drop, sum_by, slice_index}
 use Rattle.std.specs.List.{range_with_len}
 use Rattle.payers.specs.Bases.{is_company}
-use Rattle.tables.specs.Entries.{entry}
+use Rattle.numbered.specs.Entries.{entry}
 
 -- What one company pays to another: entry (from − 1) × 32 + (to − 1) of the table.
 abbrev pub payment : List ℕ → ℕ → ℕ → ℕ

@@ -9,7 +9,7 @@ use Rattle.payers.specs.Replacements.{is_barred, is_replaced, is_substitute, Tak
 use Rattle.payers.specs.Substitutes.{participant_after, replaced_after, substitute_after}
 use Rattle.tables.specs.Accounts.{Held, Pot, entered, with_pot, passes}
 use Rattle.tables.specs.Accounts.{shed as shed_in}
-use Rattle.tables.specs.Entries.{is_numbered, entry, with_entry}
+use Rattle.numbered.specs.Entries.{is_numbered, entry, with_entry}
 use Rattle.tables.specs.Points.{Points, no_point, point, supplied, shed_at, with_supplier, with_shedding}
 use Rattle.tables.proofs.Entries.{entry_with}
 use Rattle.month.specs.Book.{Metering}

@@ -11,7 +11,7 @@ use Rattle.payers.specs.CompaniesLemmas.{weight_next, by_company_long, by_compan
 use Rattle.tables.specs.declared.units.Place.{Place}
 use Rattle.tables.specs.declared.units.UnitRow.{UnitRow}
 use Rattle.tables.specs.Accounts.{Held, Pot, pot_at}
-use Rattle.tables.specs.Entries.{entry}
+use Rattle.numbered.specs.Entries.{entry}
 use Rattle.tables.specs.Points.{Points}
 use Rattle.tables.specs.Points.{point as point_in}
 use Rattle.tables.specs.Units.{find, are_owned}

@@ -9,7 +9,7 @@ use Rattle.tables.specs.declared.units.Place.{Place}
 use Rattle.tables.specs.declared.units.UnitRow.{UnitRow}
 use Rattle.tables.specs.Accounts.{Pot, entered, with_more, with_pot}
 use Rattle.tables.specs.Accounts.{shed as shed_in}
-use Rattle.tables.specs.Entries.{is_numbered}
+use Rattle.numbered.specs.Entries.{is_numbered}
 use Rattle.tables.specs.Points.{point as point_in}
 use Rattle.tables.specs.Units.{find}
 use Rattle.tables.specs.Units.{place as place_in}

@@ -15,7 +15,7 @@ use Rattle.payers.specs.CompaniesLemmas.{by_company_long, by_company_sum}
 use Rattle.payers.specs.Moved.{moves, moved_weight}
 use Rattle.payers.specs.Runs.{sum_next}
 use Rattle.tables.specs.Accounts.{Pot, pot_at}
-use Rattle.tables.specs.Entries.{entry}
+use Rattle.numbered.specs.Entries.{entry}
 use Rattle.clearing.specs.Clearing.{Clears}
 use Rattle.clearing.specs.Payments.{with_payments}
 use Rattle.clearing.proofs.Clearing.{clears}

@@ -7,7 +7,7 @@ use Rattle.std.specs.List.{range_with_len}
 use Rattle.prorating.specs.Laws.{Sharing}
 use Rattle.payers.specs.Companies.{by_company}
 use Rattle.payers.specs.Replacements.{weight_moved}
-use Rattle.tables.specs.Entries.{entry}
+use Rattle.numbered.specs.Entries.{entry}
 use Rattle.clearing.specs.Payments.{with_payments}
 use Rattle.month.specs.declared.figures.Figures.{Figures}
 use Rattle.month.specs.declared.refusal.Refusal.{Refusal}

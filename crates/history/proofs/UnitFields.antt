@@ -6,7 +6,7 @@ use Rattle.std.proofs.lemmas.Bool.Decides.{nat_tests}
 use Rattle.std.specs.Option.{option_map}
 use Rattle.tables.specs.declared.units.Place.{Place}
 use Rattle.tables.specs.declared.units.UnitRow.{UnitRow}
-use Rattle.tables.specs.Entries.{is_numbered, entry}
+use Rattle.numbered.specs.Entries.{is_numbered, entry}
 use Rattle.tables.specs.Units.{fresh, find, change, place, performance, installed, slot, given, is_addable, added, with_performance, with_installation, with_line}
 use Rattle.tables.proofs.Added.{or_else, find_added, is_none}
 use Rattle.tables.proofs.Entries.{getD_all, entry_all, entry_with, with_entry_long}

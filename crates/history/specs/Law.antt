@@ -3,7 +3,7 @@ use Rattle.std.specs.Prelude.{◌≡◌, ℕ, ◌+◌, ◌<◌, Bool, true, fals
 use Rattle.std.specs.List.{range_with_len}
 use Rattle.prorating.specs.Laws.{Sharing, Near}
 use Rattle.payers.specs.Bases.{is_company}
-use Rattle.tables.specs.Entries.{is_numbered, entry}
+use Rattle.numbered.specs.Entries.{is_numbered, entry}
 use Rattle.clearing.specs.Clearing.{Clears}
 use Rattle.clearing.specs.Payments.{with_payments}
 use Rattle.month.specs.declared.figures.Figures.{Figures}

@@ -1,7 +1,7 @@
 -- What a company is owed and owes.
 use Rattle.std.specs.Prelude.{ℕ, List, [], pos, ◌-ℤ◌, sum_by}
 use Rattle.std.specs.List.{range_with_len}
-use Rattle.tables.specs.Entries.{entry}
+use Rattle.numbered.specs.Entries.{entry}
 use Rattle.month.specs.declared.figures.Figures.{Figures}
 
 abbrev pub figures : ℕ → ℕ → Figures

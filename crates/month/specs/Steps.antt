@@ -8,7 +8,7 @@ use Rattle.tables.specs.declared.units.Place.{Place}
 use Rattle.tables.specs.declared.units.UnitRow.{UnitRow}
 use Rattle.tables.specs.Accounts.{Held, Pot, entered}
 use Rattle.tables.specs.Accounts.{shed as shed_in}
-use Rattle.tables.specs.Entries.{entry, with_entry}
+use Rattle.numbered.specs.Entries.{entry, with_entry}
 use Rattle.tables.specs.Points.{Points, with_supplier, with_shedding}
 use Rattle.tables.specs.Points.{point as point_in}
 use Rattle.tables.specs.Units.{find, change, added, with_performance, with_installation, with_line}

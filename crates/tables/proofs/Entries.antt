@@ -3,7 +3,7 @@ use Rattle.std.proofs.Common.{◌≡◌, ℕ, zero, suc, ◌-◌, ◌<◌, Bool,
 use Rattle.std.proofs.lemmas.List.{get_or-set_same, get_or-set_other, length-set}
 use Rattle.std.proofs.lemmas.Bool.{eqb-true, eqb-false, cond-true}
 use Rattle.std.proofs.lemmas.Bool.Decides.{nat_tests}
-use Rattle.tables.specs.Entries.{is_numbered, entry, with_entry}
+use Rattle.numbered.specs.Entries.{is_numbered, entry, with_entry}
 
 pub getD_all : {X : Type 0} (d : X) (n i : ℕ) → get_or (replicate n d) i d ≡ d
 getD_all d zero i = refl

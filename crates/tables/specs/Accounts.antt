@@ -1,7 +1,7 @@
 -- What the companies earned, and the pots that pay for it.
-use Rattle.std.specs.Prelude.{ℕ, zero, suc, ◌+◌, Bool, cond, not, ◌&&◌, ◌||◌, List, [], ◌∷◌, ◌++◌, length, replicate, Some, None, Option, ◌==◌, nat_le, nat_lt}
+use Rattle.std.specs.Prelude.{ℕ, ◌+◌, Bool, cond, not, ◌&&◌, ◌||◌, List, [], ◌∷◌, ◌++◌, length, replicate, Option, ◌==◌, nat_le, nat_lt, slice_get}
 use Rattle.prorating.specs.Weights.{limit}
-use Rattle.tables.specs.Entries.{is_numbered, entry, with_entry}
+use Rattle.numbered.specs.Entries.{is_numbered, entry, with_entry}
 
 -- A pot: its cents, and the weights of the companies that pay it.
 pub record Pot : Type 0 where
@@ -10,9 +10,7 @@ pub record Pot : Type 0 where
 
 -- The pot at an index, if there are so many.
 abbrev pub pot_at : List Pot → ℕ → Option Pot
-pot_at [] k = None
-pot_at (p ∷ ps) zero = Some p
-pot_at (p ∷ ps) (suc k) = pot_at ps k
+pot_at pots k = slice_get pots k
 
 -- What the companies 1 to 32 earned; the cents of the pots of services 1 frequency, 2 voltage and 3 installations; all credits together; the
 -- pots of sheddings, in their order.

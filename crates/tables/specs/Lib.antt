@@ -1,4 +1,3 @@
-pub mod Entries
 pub mod Units
 pub mod Points
 pub mod Accounts

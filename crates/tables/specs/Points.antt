@@ -1,7 +1,7 @@
 -- The points of withdrawal.
 use Rattle.std.specs.Prelude.{ℕ, ◌+◌, Bool, cond, ◌&&◌, List, replicate, Some, None, nat_le, nat_lt}
 use Rattle.tables.specs.declared.points.Point.{Point}
-use Rattle.tables.specs.Entries.{is_numbered, entry, with_entry}
+use Rattle.numbered.specs.Entries.{is_numbered, entry, with_entry}
 
 -- One that is not registered and had no shedding.
 abbrev pub no_point : Point

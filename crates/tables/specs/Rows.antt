@@ -1,101 +1,57 @@
 -- The look-up of a unit among the rows.
-use Rattle.std.specs.Prelude.{◌≡◌, ℕ, zero, suc, ◌+◌, ◌<◌, ◌≤◌, Bool, true, false, cond, not, ◌&&◌, List, [], ◌∷◌, length, get_or, take, drop, set, is_some, Some, None, Option, ◌==◌, slice_index_or, slice_set, refl}
+use Rattle.std.specs.Prelude.{◌≡◌, ℕ, ◌+◌, ◌<◌, ◌≤◌, Bool, true, false, cond, not, ◌&&◌, List, [], ◌∷◌, length, is_some, Some, None, Option, ◌==◌, slice_index_or, slice_set, position, slice_get, refl}
+use Rattle.std.specs.List.{position_or_len}
 use Rattle.std.proofs.Common.{sym, ap, ◌∙◌, arith}
-use Rattle.std.proofs.lemmas.List.{at_drop_all, drop_more, length-set, get_or-take, length-take, length-take-le}
+use Rattle.std.proofs.lemmas.Bool.Decides.{nat_tests}
+use Rattle.std.proofs.lemmas.List.{set_past}
+use Rattle.std.proofs.lemmas.List.Folds.{find_at}
+use Rattle.std.proofs.lemmas.List.Quantifiers.{position-Some}
+use Rattle.std.proofs.lemmas.Option.{slice_get_past, slice_get-get_or}
+use Rattle.std.proofs.Math.Numerals.{one-add}
 use Rattle.std.proofs.lemmas.Bool.{eqb-true, eqb-false, and_parts, and_from}
 use Rattle.std.specs.Option.{option_map}
 use Rattle.payers.specs.Bases.{is_company}
 use Rattle.tables.specs.declared.units.UnitRow.{UnitRow}
-use Rattle.tables.specs.Units.{no_row, find, change, are_owned, are_distinct, place, owner_in, Stands, Absent}
+use Rattle.tables.specs.Units.{no_row, find, change, are_owned, are_distinct, place, owner_in}
 
--- The index of a unit's row, among rows that are counted from k.
-abbrev pub seek : ℕ → List UnitRow → ℕ → Option ℕ
-seek k [] u = None
-seek k (r ∷ rs) u = cond (r.number == u) (Some k) (seek (k + 1) rs u)
+-- Where a unit stands among the rows: at an index, or nowhere.
+pub record Stands (rows : List UnitRow) (unit index : ℕ) : Type 0 where
+  pub inside : index < length rows
+  pub row : find rows unit ≡ Some (slice_index_or rows index no_row)
+  pub changed : (f : UnitRow → UnitRow) → slice_set rows index (f (slice_index_or rows index no_row)) ≡ change f rows unit
 
-pub seek_more : (rows : List UnitRow) (n i u : ℕ) → i < n → n ≤ length rows → seek i (drop i (take n rows)) u ≡ cond ((get_or rows i no_row).number == u) (Some i) (seek (i + 1) (drop (i + 1) (take n rows)) u)
-seek_more rows n i u l w =
-    let within : i < length (take n rows) = omega (arith, length-take-le n rows w) in
-    ap (λ ys. seek i ys u) (drop_more (take n rows) i no_row within)
-    ∙ ap (λ r. cond (r.number == u) (Some i) (seek (i + 1) (drop (i + 1) (take n rows)) u)) (get_or-take n rows i no_row l)
+pub record Absent (rows : List UnitRow) (unit : ℕ) : Type 0 where
+  pub row : find rows unit ≡ None
+  pub unchanged : (f : UnitRow → UnitRow) → rows ≡ change f rows unit
 
-pub seek_end : (rows : List UnitRow) (n i u : ℕ) → n ≤ i → seek i (drop i (take n rows)) u ≡ None
-seek_end rows n i u l = at_drop_all (λ ys. seek i ys u) (take n rows) i (omega (arith, length-take n rows))
+-- the index of a unit's row, or their number where it has none
+abbrev pub seek : List UnitRow → ℕ → ℕ
+seek rows u = position_or_len (λ r. r.number == u) rows
 
-take_put : (n : ℕ) (xs : List UnitRow) (p : ℕ) (y : UnitRow) → p < n → take n (slice_set xs p y) ≡ slice_set (take n xs) p y
-take_put zero xs p y l = absurd (omega arith)
-take_put (suc n) [] p y l = refl
-take_put (suc n) (x ∷ xs) zero y l = refl
-take_put (suc n) (x ∷ xs) (suc p) y l = ap (λ ys. x ∷ ys) (take_put n xs p y (omega arith))
-
--- what is not found
-none_find : (k : ℕ) (xs : List UnitRow) (u : ℕ) → seek k xs u ≡ None → find xs u ≡ None
-none_find k [] u e = refl
-none_find k (x ∷ xs) u e = go (x.number == u) e (none_find (k + 1) xs u)
+change_at : (f : UnitRow → UnitRow) (xs : List UnitRow) (u : ℕ) → slice_set xs (seek xs u) (f (slice_index_or xs (seek xs u) no_row)) ≡ change f xs u
+change_at f [] u = refl
+change_at f (x ∷ xs) u = go (x.number == u) (change_at f xs u)
   where
-    go : (t : Bool) → cond t (Some k) (seek (k + 1) xs u) ≡ None → (seek (k + 1) xs u ≡ None → find xs u ≡ None) → cond t (Some x) (find xs u) ≡ None
-    go true q more = let z : ◌≡◌ {A = ℕ} 0 1 = cc in absurd (omega arith)
-    go false q more = more q
+    go : (t : Bool) → slice_set xs (seek xs u) (f (slice_index_or xs (seek xs u) no_row)) ≡ change f xs u → slice_set (x ∷ xs) (cond (not t) (1 + seek xs u) 0) (f (slice_index_or (x ∷ xs) (cond (not t) (1 + seek xs u) 0) no_row)) ≡ cond t (f x ∷ xs) (x ∷ change f xs u)
+    go true more = refl
+    go false more = rw (one-add) (ap (λ ys. x ∷ ys) more)
 
-none_change : (f : UnitRow → UnitRow) (k : ℕ) (xs : List UnitRow) (u : ℕ) → seek k xs u ≡ None → change f xs u ≡ xs
-none_change f k [] u e = refl
-none_change f k (x ∷ xs) u e = go (x.number == u) e (none_change f (k + 1) xs u)
-  where
-    go : (t : Bool) → cond t (Some k) (seek (k + 1) xs u) ≡ None → (seek (k + 1) xs u ≡ None → change f xs u ≡ xs) → cond t (f x ∷ xs) (x ∷ change f xs u) ≡ x ∷ xs
-    go true q more = let z : ◌≡◌ {A = ℕ} 0 1 = cc in absurd (omega arith)
-    go false q more = ap (λ ys. x ∷ ys) (more q)
-
--- what is found, at j rows from the first
-record Here (f : UnitRow → UnitRow) (k : ℕ) (xs : List UnitRow) (u p : ℕ) : Type 0 where
-  j : ℕ
-  at : p ≡ k + j
-  inside : j < length xs
-  row : find xs u ≡ Some (slice_index_or xs j no_row)
-  changed : change f xs u ≡ slice_set xs j (f (slice_index_or xs j no_row))
-
-some_here : (f : UnitRow → UnitRow) (k : ℕ) (xs : List UnitRow) (u p : ℕ) → seek k xs u ≡ Some p → Here f k xs u p
-some_here f k [] u p e = let z : ◌≡◌ {A = ℕ} 0 1 = cc in absurd (omega arith)
-some_here f k (x ∷ xs) u p e = go (x.number == u) refl e (some_here f (k + 1) xs u p)
-  where
-    go : (t : Bool) → (x.number == u) ≡ t → cond t (Some k) (seek (k + 1) xs u) ≡ Some p → (seek (k + 1) xs u ≡ Some p → Here f (k + 1) xs u p) → Here f k (x ∷ xs) u p
-    go true b q rest =
-        let here : k ≡ p = cc in
-        record {
-          j = 0;
-          at = omega arith;
-          inside = omega arith;
-          row = ap (λ t. cond t (Some x) (find xs u)) b;
-          changed = ap (λ t. cond t (f x ∷ xs) (x ∷ change f xs u)) b;
-        }
-    go false b q rest =
-        let more = rest q in
-        record {
-          j = suc more.j;
-          at = more.at ∙ omega arith;
-          inside = omega (arith, more.inside);
-          row = ap (λ t. cond t (Some x) (find xs u)) b ∙ more.row;
-          changed = ap (λ t. cond t (f x ∷ xs) (x ∷ change f xs u)) b ∙ ap (λ ys. x ∷ ys) more.changed;
-        }
-
-pub absent : (rows : List UnitRow) (n u : ℕ) → seek 0 (take n rows) u ≡ None → Absent rows n u
-absent rows n u e = record { row = none_find 0 (take n rows) u e; unchanged = λ f. sym (none_change f 0 (take n rows) u e) }
-
-pub stands : (rows : List UnitRow) (n u p : ℕ) → n ≤ length rows → seek 0 (take n rows) u ≡ Some p → Stands rows n u p
-stands rows n u p w e =
-    let it = some_here (λ r. r) 0 (take n rows) u p e in
-    let same : it.j ≡ p = omega (arith, it.at) in
-    let long : length (take n rows) ≡ n = length-take-le n rows w in
-    let inside : p < n = omega (arith, it.inside) in
+pub absent : (rows : List UnitRow) (u : ℕ) → position (λ r. r.number == u) rows ≡ None → Absent rows u
+absent rows u e =
+    let past : length rows ≤ seek rows u = grind (arith, nat_tests) in
     record {
-      inside = inside;
-      row = it.row ∙ ap Some (ap (λ i. get_or (take n rows) i no_row) same ∙ get_or-take n rows p no_row inside);
-      changed = λ f.
-          let that = some_here f 0 (take n rows) u p e in
-          let here : that.j ≡ p = omega (arith, that.at) in
-          take_put n rows p (f (slice_index_or rows p no_row)) inside
-          ∙ ap (λ r. set (take n rows) p (f r)) (sym (get_or-take n rows p no_row inside))
-          ∙ ap (λ i. set (take n rows) i (f (slice_index_or (take n rows) i no_row))) (sym here)
-          ∙ sym that.changed;
+      row = find_at (λ r. r.number == u) rows ∙ slice_get_past rows (seek rows u) past;
+      unchanged = λ f. sym (set_past rows (seek rows u) _ past) ∙ change_at f rows u;
+    }
+
+pub stands : (rows : List UnitRow) (u i : ℕ) → position (λ r. r.number == u) rows ≡ Some i → Stands rows u i
+stands rows u i e =
+    let within = position-Some (λ r. r.number == u) rows i no_row e in
+    let here : seek rows u ≡ i = grind (arith, nat_tests) in
+    record {
+      inside = within.0;
+      row = find_at (λ r. r.number == u) rows ∙ ap (slice_get rows) here ∙ slice_get-get_or rows i no_row within.0;
+      changed = λ f. ap (λ k. slice_set rows k (f (slice_index_or rows k no_row))) (sym here) ∙ change_at f rows u;
     }
 
 some_mapped : (f : UnitRow → UnitRow) (o : Option UnitRow) → is_some (option_map f o) ≡ is_some o
@@ -141,20 +97,18 @@ module _ (f : UnitRow → UnitRow) (number_kept : (r : UnitRow) → (f r).number
       go true (new, rest) more = ap (λ n. not (is_some (find xs n)) && are_distinct xs) (number_kept x) ∙ and_from _ _ new rest
       go false (new, rest) more = and_from _ _ (ap not (still x.number) ∙ new) (more rest)
 
-  -- so does a table
-  pub record Kept (rows : List UnitRow) (n : ℕ) : Type 0 where
-    pub long : length rows ≡ 48
-    pub owned : are_owned (take n rows) ≡ true
-    pub once : are_distinct (take n rows) ≡ true
+-- A row as another one, but with its own number and owner.
+abbrev like : UnitRow → UnitRow → UnitRow
+like new r =
+    record { number = r.number; owner = r.owner; zone = new.zone; performances = new.performances; installed = new.installed; given = new.given }
 
-  pub kept : (rows : List UnitRow) (n u i : ℕ) (new : UnitRow) → Stands rows n u i → new ≡ f (slice_index_or rows i no_row) → Kept rows n → Kept (slice_set rows i new) n
-  kept rows n u i new there is k =
-      let now = ap (λ r. take n (slice_set rows i r)) is ∙ there.changed f in
-      record {
-        long = length-set rows i new ∙ k.long;
-        owned = ap are_owned now ∙ change_owned (take n rows) u ∙ k.owned;
-        once = ap are_distinct now ∙ change_distinct (take n rows) u k.once;
-      }
+-- so does a table where a row has another in its place
+pub kept : (rows : List UnitRow) (u i : ℕ) (new : UnitRow) → Stands rows u i → new.number ≡ (slice_index_or rows i no_row).number → new.owner ≡ (slice_index_or rows i no_row).owner → are_owned rows ≡ true → are_distinct rows ≡ true → (are_owned (slice_set rows i new) ≡ true) × (are_distinct (slice_set rows i new) ≡ true)
+kept rows u i new there number owner owned once =
+    let same : new ≡ like new (slice_index_or rows i no_row) = λ k. record { number = number k; owner = owner k; zone = new.zone; performances = new.performances; installed = new.installed; given = new.given } in
+    let now : slice_set rows i new ≡ change (like new) rows u = ap (slice_set rows i) same ∙ there.changed (like new) in
+    (ap are_owned now ∙ change_owned (like new) (λ r. refl) (λ r. refl) rows u ∙ owned,
+    ap are_distinct now ∙ change_distinct (like new) (λ r. refl) (λ r. refl) rows u once)
 
 -- who is found to own a unit is a company
 pub found_company : (xs : List UnitRow) (u : ℕ) (r : UnitRow) → are_owned xs ≡ true → find xs u ≡ Some r → is_company r.owner ≡ true

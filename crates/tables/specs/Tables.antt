@@ -1,5 +1,5 @@
 -- What the tables hold, without the facts that their types keep.
-use Rattle.std.specs.Prelude.{List, map, take}
+use Rattle.std.specs.Prelude.{List, map}
 use Rattle.tables.specs.declared.accounts.Accounts.{Accounts}
 use Rattle.tables.specs.declared.accounts.ShedPot.{ShedPot}
 use Rattle.tables.specs.declared.points.PointTable.{PointTable}
@@ -10,14 +10,14 @@ use Rattle.tables.specs.Points.{Points}
 
 -- The units that are registered.
 abbrev pub listed : UnitTable → List UnitRow
-listed t = take t.count t.rows
+listed t = t.rows.items
 
 abbrev pub points_of : PointTable → Points
 points_of t = record { points = t.points; sheddings = t.sheddings }
 
--- The pots of sheddings are the first that are counted.
+-- The pot of a shedding.
 abbrev pub shed_pot : ShedPot → Pot
-shed_pot p = record { cents = p.cents; weights = p.base.kwh }
+shed_pot p = record { cents = p.cents; weights = p.base.at }
 
 abbrev pub held : Accounts → Held
-held a = record { earned = a.earned; services = a.services; credits = a.credits; pots = map shed_pot (take a.count a.sheddings) }
+held a = record { earned = a.earned; services = a.services; credits = a.credits; pots = map shed_pot a.sheddings.items }

@@ -1,12 +1,13 @@
 -- The units of a month, as a list of rows in the order in which they were registered.
-use Rattle.std.specs.Prelude.{◌≡◌, ℕ, ◌+◌, ◌-◌, ◌*◌, ◌<◌, Bool, true, false, cond, not, ◌&&◌, List, [], ◌∷◌, ◌++◌, length, take, replicate, is_some, Some, None, Option, ◌==◌, nat_le, slice_index_or, slice_set}
+use Rattle.std.specs.Prelude.{ℕ, ◌+◌, ◌-◌, ◌*◌, Bool, true, false, cond, not, ◌&&◌, List, [], ◌∷◌, ◌++◌, length, replicate, is_some, Some, None, Option, ◌==◌, nat_le, slice_index_or, slice_set}
+use Rattle.std.specs.Prelude.{find as find_by}
 use Rattle.payers.specs.Bases.{is_company}
 use Rattle.worth.specs.declared.line.Line.{Line}
 use Rattle.worth.specs.declared.performance.Performance.{Performance}
 use Rattle.worth.specs.Lines.{kind}
 use Rattle.tables.specs.declared.units.Place.{Place}
 use Rattle.tables.specs.declared.units.UnitRow.{UnitRow}
-use Rattle.tables.specs.Entries.{entry, with_entry}
+use Rattle.numbered.specs.Entries.{entry, with_entry}
 
 -- A unit of which nothing was posted.
 abbrev pub fresh : ℕ → ℕ → ℕ → UnitRow
@@ -19,23 +20,12 @@ no_row = record { number = 0; owner = 0; zone = 0; performances = []; installed 
 
 -- The row of a unit.
 abbrev pub find : List UnitRow → ℕ → Option UnitRow
-find [] unit = None
-find (r ∷ rs) unit = cond (r.number == unit) (Some r) (find rs unit)
+find rows unit = find_by (λ r. r.number == unit) rows
 
 -- The rows with that of a unit changed; as they were where the unit is not registered.
 abbrev pub change : (UnitRow → UnitRow) → List UnitRow → ℕ → List UnitRow
 change f [] unit = []
 change f (r ∷ rs) unit = cond (r.number == unit) (f r ∷ rs) (r ∷ change f rs unit)
-
--- Of the first rows: a unit stands at an index, or is not among them.
-pub record Stands (rows : List UnitRow) (count unit index : ℕ) : Type 0 where
-  pub inside : index < count
-  pub row : find (take count rows) unit ≡ Some (slice_index_or rows index no_row)
-  pub changed : (f : UnitRow → UnitRow) → take count (slice_set rows index (f (slice_index_or rows index no_row))) ≡ change f (take count rows) unit
-
-pub record Absent (rows : List UnitRow) (count unit : ℕ) : Type 0 where
-  pub row : find (take count rows) unit ≡ None
-  pub unchanged : (f : UnitRow → UnitRow) → take count rows ≡ change f (take count rows) unit
 
 -- What every table keeps: each owner is a company's number, and no unit's number stands twice.
 abbrev pub are_owned : List UnitRow → Bool

@@ -1,11 +1,12 @@
 // What the companies earned, and the pots that pay for it.
-ghost use Rattle.std.specs.Prelude.{◌≡◌, ℕ, ◌≤◌, length, sum, slice_index};
+ghost use Rattle.std.specs.Prelude.{◌≡◌, ℕ, ◌≤◌, length, replicate, sum, slice_index};
 ghost use Rattle.prorating.specs.Weights.{limit};
 
 pub mod calls;
 
+use arrayvec::ArrayVec;
 use payers::base::COMPANIES;
-use payers::zone::ZoneHour;
+use payers::weights::CompanyWeights;
 
 // The pots of services: 1 frequency, 2 voltage, 3 installations.
 pub const SERVICES: usize = 3;
@@ -17,22 +18,31 @@ pub const SHED_POTS: usize = 16;
 #[derive(Clone, Copy)]
 pub struct ShedPot {
     pub cents: u64,
-    pub base: ZoneHour,
+    pub base: CompanyWeights,
 }
 
-// The pots of sheddings are the first `count`. The type keeps all credits together equal to the sum of what the companies earned and within the
-// limit, and no service costs more than these.
+// The pot of nothing, over nobody.
+impl Default for ShedPot {
+    ghost is_default = { λ p. (p.cents ≡ 0) × (p.base.at ≡ replicate 32 0) };
+
+    fn default() -> ShedPot {
+        ShedPot {
+            cents: 0,
+            base: CompanyWeights::none(),
+        }
+    }
+}
+
+// The type keeps all credits together equal to the sum of what the companies earned and within the limit, and no service costs more than these.
 #[derive(Drop)]
 pub struct Accounts {
     earned: [u64; COMPANIES],
     services: [u64; SERVICES],
     credits: u64,
-    sheddings: [ShedPot; SHED_POTS],
-    count: usize,
+    sheddings: ArrayVec<ShedPot, SHED_POTS>,
     ghost earned_long: { length earned ≡ 32 },
     ghost services_long: { length services ≡ 3 },
-    ghost sheddings_long: { length sheddings ≡ 16 },
-    ghost few: { count ≤ 16 },
+    ghost few: { length sheddings.items ≤ 16 },
     ghost light: { credits ≤ limit },
     ghost earned_sum: { sum earned ≡ credits },
     ghost earned_small: { (k : ℕ) → slice_index earned k ≤ credits },

@@ -4,6 +4,5 @@
 
 pub mod accounts;
 pub mod marks;
-mod numbered;
 pub mod points;
 pub mod units;

@@ -1,8 +1,8 @@
 // Which of the companies are marked, as registered or as metered.
 ghost use Rattle.std.specs.Prelude.{◌≡◌, true, false, length, replicate};
-ghost use Rattle.tables.specs.Entries.{entry, with_entry};
+ghost use Rattle.numbered.specs.Entries.{entry, with_entry};
 
-use crate::numbered::index_of;
+use numbered::{entry_of, set_entry};
 use payers::base::COMPANIES;
 
 // A mark for each of the companies 1 to 32.
@@ -26,18 +26,13 @@ impl Marks {
     pub fn has(&self, company: u64) -> bool
         ensures { result ≡ entry 32 false self.now.at company }
     {
-        match index_of(company, 32) {
-            Some(index) => self.at[index],
-            None => false,
-        }
+        entry_of(&self.at, company, false)
     }
 
     // Marks a company; nothing for any other number.
     pub fn put(&mut self, company: u64)
         ensures { self.new.at ≡ with_entry 32 self.old.at company true }
     {
-        if let Some(index) = index_of(company, 32) {
-            self.at[index] = true;
-        }
+        set_entry(&mut self.at, company, true);
     }
 }

@@ -13,7 +13,7 @@ pub const SHEDDINGS: u64 = 10_000;
 pub const LONGEST: u64 = 86_400;
 
 // A point: its supplier where it is registered, how many sheddings it had, and for how many seconds together.
-#[derive(Clone, Copy)]
+#[derive(Clone, Copy, Default)]
 pub struct Point {
     pub supplier: Option<u64>,
     pub count: u64,

@@ -1,9 +1,10 @@
 // The units of a month: who owns each, where it stands, and what was posted of it.
-ghost use Rattle.std.specs.Prelude.{◌≡◌, ◌≤◌, true, length, take};
+ghost use Rattle.std.specs.Prelude.{◌≡◌, true};
 ghost use Rattle.tables.specs.Units.{are_owned, are_distinct};
 
 pub mod calls;
 
+use arrayvec::ArrayVec;
 use worth::Performance;
 
 // How many units a month has at most.
@@ -15,7 +16,7 @@ pub const FAMILIES: usize = 2;
 pub const LINES: usize = 5_960;
 
 // A unit, and what was posted of it so far.
-#[derive(Clone, Copy)]
+#[derive(Clone, Copy, Default)]
 pub struct UnitRow {
     pub number: u64,
     pub owner: u64,
@@ -34,13 +35,10 @@ pub struct Place {
     pub zone: u64,
 }
 
-// The units that are registered are the first `count` rows. No number stands twice, and every owner is a company's number.
+// The units that are registered. No number stands twice, and every owner is a company's number.
 #[derive(Drop)]
 pub struct UnitTable {
-    rows: [UnitRow; UNITS],
-    count: usize,
-    ghost long: { length rows ≡ 48 },
-    ghost few: { count ≤ 48 },
-    ghost owned: { are_owned (take count rows) ≡ true },
-    ghost once: { are_distinct (take count rows) ≡ true },
+    rows: ArrayVec<UnitRow, UNITS>,
+    ghost owned: { are_owned rows.items ≡ true },
+    ghost once: { are_distinct rows.items ≡ true },
 }

@@ -1,15 +1,24 @@
 // What is asked of the accounts, and what is entered.
-ghost use Rattle.std.specs.Prelude.{◌≡◌, ◌≤◌, length, if◌then◌else◌, Some, None, MatchOption, nat_le};
+ghost use Rattle.std.specs.Prelude.{◌≡◌, ◌+◌, ◌^◌, ◌<◌, ◌≤◌, true, length, if◌then◌else◌, Some, None, MatchOption, nat_le};
 ghost use Rattle.prorating.specs.Weights.{limit};
-ghost use Rattle.tables.specs.Accounts.{nothing_held, pot_at, passes as passes_limit, is_credited as is_credited_in, has_room as has_room_in, entered, with_pot, shed as shed_in};
-ghost use Rattle.tables.specs.Entries.{entry};
+ghost use Rattle.numbered.specs.Entries.{entry};
+ghost use Rattle.tables.specs.Accounts.{nothing_held, pot_at, passes as passes_limit, with_more, is_credited as is_credited_in, has_room as has_room_in, entered, with_pot, shed as shed_in};
 ghost use Rattle.tables.specs.Tables.{shed_pot, held};
 
-use super::{Accounts, SERVICES, SHED_POTS, ShedPot};
-use crate::numbered::index_of;
+use super::{Accounts, SERVICES, ShedPot};
+use arrayvec::ArrayVec;
+use numbered::{entry_of, is_numbered, set_entry};
 use payers::base::COMPANIES;
-use payers::zone::ZoneHour;
+use payers::weights::CompanyWeights;
 use prorating::weights::LIMIT;
+
+// Adds cents to the entry of a number; nothing for any other number.
+fn add_to<const N: usize>(entries: &mut [u64; N], number: u64, cents: u64)
+    requires { entry N 0 entries.old number + cents < 2 ^ 64 }
+    ensures { entries.new ≡ with_more N entries.old number cents }
+{
+    set_entry(entries, number, entry_of(entries, number, 0) + cents);
+}
 
 impl Accounts {
     // Nobody earned anything, and all pots are empty.
@@ -20,11 +29,7 @@ impl Accounts {
             earned: [0; COMPANIES],
             services: [0; SERVICES],
             credits: 0,
-            sheddings: [ShedPot {
-                cents: 0,
-                base: ZoneHour::none(),
-            }; SHED_POTS],
-            count: 0,
+            sheddings: ArrayVec::new(),
         }
     }
 
@@ -40,58 +45,56 @@ impl Accounts {
         ensures is { result ≡ entry 32 0 (held self.now).earned company }
         ensures small { result ≤ limit }
     {
-        match index_of(company, 32) {
-            Some(index) => self.earned[index],
-            None => 0,
-        }
+        entry_of(&self.earned, company, 0)
     }
 
     // What the pot of a service has to pay: 1 frequency, 2 voltage, 3 installations; 0 for any other number.
     pub fn service(&self, service: u64) -> u64
         ensures { result ≡ entry 3 0 (held self.now).services service }
     {
-        match index_of(service, 3) {
-            Some(index) => self.services[index],
-            None => 0,
-        }
+        entry_of(&self.services, service, 0)
     }
 
     // The pot of a shedding, the first at 0; None where there are no more.
     pub fn shedding(&self, index: usize) -> Option<ShedPot>
         ensures { MatchOption result (pot_at (held self.now).pots index ≡ None) (λ p. pot_at (held self.now).pots index ≡ Some (shed_pot p)) }
     {
-        if index < self.count {
-            Some(self.sheddings[index])
-        } else {
-            None
-        }
+        self.sheddings.get(index).copied()
     }
 
     // Whether there is no room for another pot of a shedding.
     pub fn is_full(&self) -> bool
         ensures { result ≡ nat_le 16 (length (held self.now).pots) }
     {
-        self.count >= SHED_POTS
+        self.sheddings.is_full()
     }
 
     // Whether a company may be credited.
     fn is_credited(&self, company: u64, cents: u64) -> bool
         ensures { result ≡ is_credited_in (held self.now) company cents }
     {
-        1 <= company && company <= 32 && !self.passes(cents)
+        is_numbered(company, COMPANIES) && !self.passes(cents)
+    }
+
+    // Credits a company.
+    fn credit(&mut self, company: u64, cents: u64)
+        requires { is_credited_in (held self.old) company cents ≡ true }
+        ensures earned { self.new.earned ≡ with_more 32 self.old.earned company cents }
+        ensures services { self.new.services ≡ self.old.services }
+        ensures credits { self.new.credits ≡ self.old.credits + cents }
+        ensures sheddings { self.new.sheddings ≡ self.old.sheddings }
+    {
+        add_to(&mut self.earned, company, cents);
+        self.credits += cents;
     }
 
     // Credits a company, at the cost of a service's pot; nothing where it may not be credited.
     pub fn enter(&mut self, company: u64, service: u64, cents: u64)
         ensures { held self.new ≡ entered (held self.old) company service cents }
     {
-        let Some(index) = index_of(service, 3) else {
-            return;
-        };
-        if self.is_credited(company, cents) {
-            self.services[index] += cents;
-            self.earned[company as usize - 1] += cents;
-            self.credits += cents;
+        if is_numbered(service, SERVICES) && self.is_credited(company, cents) {
+            self.credit(company, cents);
+            add_to(&mut self.services, service, cents);
         }
     }
 
@@ -103,27 +106,24 @@ impl Accounts {
     }
 
     // Gives a shedding a pot of its own, where it is worth anything and there is room.
-    fn give_pot(&mut self, cents: u64, base: ZoneHour)
-        ensures pots { (held self.new).pots ≡ (if nat_le 16 (length (held self.old).pots) then (held self.old).pots else with_pot (held self.old).pots cents base.kwh) }
+    fn give_pot(&mut self, cents: u64, base: CompanyWeights)
+        ensures pots { (held self.new).pots ≡ (if nat_le 16 (length (held self.old).pots) then (held self.old).pots else with_pot (held self.old).pots cents base.at) }
         ensures earned { self.new.earned ≡ self.old.earned }
         ensures services { self.new.services ≡ self.old.services }
         ensures credits { self.new.credits ≡ self.old.credits }
     {
-        if cents == 0 || self.is_full() {
-            return;
+        if cents > 0 && !self.is_full() {
+            self.sheddings.push(ShedPot { cents, base });
         }
-        self.sheddings[self.count] = ShedPot { cents, base };
-        self.count += 1;
     }
 
     // Credits a company for a shedding, at the cost of a pot of its own; nothing where it may not be credited.
-    pub fn shed(&mut self, company: u64, cents: u64, base: ZoneHour)
-        ensures { held self.new ≡ shed_in (held self.old) company cents base.kwh }
+    pub fn shed(&mut self, company: u64, cents: u64, base: CompanyWeights)
+        ensures { held self.new ≡ shed_in (held self.old) company cents base.at }
     {
         if self.has_room(cents) && self.is_credited(company, cents) {
             self.give_pot(cents, base);
-            self.earned[company as usize - 1] += cents;
-            self.credits += cents;
+            self.credit(company, cents);
         }
     }
 }

@@ -4,7 +4,7 @@ ghost use Rattle.tables.specs.Points.{no_points, point as point_in, with_supplie
 ghost use Rattle.tables.specs.Tables.{points_of};
 
 use super::{LONGEST, POINTS, Point, PointTable, SHEDDINGS};
-use crate::numbered::index_of;
+use numbered::{entry_of, index_of, is_numbered};
 
 impl PointTable {
     // No point is registered, and nothing was shed.
@@ -12,11 +12,7 @@ impl PointTable {
         ensures { points_of result ≡ no_points }
     {
         PointTable {
-            points: [Point {
-                supplier: None,
-                count: 0,
-                seconds: 0,
-            }; POINTS],
+            points: [Point::default(); POINTS],
             sheddings: 0,
         }
     }
@@ -26,14 +22,7 @@ impl PointTable {
         ensures is { result ≡ point_in (points_of self.now) number }
         ensures few { (result.count ≤ 10_000) × (result.seconds ≤ 864_000_000) }
     {
-        match index_of(number, 32) {
-            Some(index) => self.points[index],
-            None => Point {
-                supplier: None,
-                count: 0,
-                seconds: 0,
-            },
-        }
+        entry_of(&self.points, number, Point::default())
     }
 
     // Whether the month takes no further shedding.
@@ -47,7 +36,7 @@ impl PointTable {
     pub fn supply(&mut self, number: u64, supplier: u64)
         ensures { points_of self.new ≡ with_supplier (points_of self.old) number supplier }
     {
-        if let Some(index) = index_of(number, 32) {
+        if let Some(index) = index_of(number, POINTS) {
             self.points[index].supplier = Some(supplier);
         }
     }
@@ -56,7 +45,7 @@ impl PointTable {
     fn is_counted(&self, number: u64, seconds: u64) -> bool
         ensures { result ≡ is_counted_in (points_of self.now) number seconds }
     {
-        1 <= number && number <= 32 && self.sheddings < SHEDDINGS && seconds <= LONGEST
+        is_numbered(number, POINTS) && !self.is_full() && seconds <= LONGEST
     }
 
     // Counts a shedding at a point; nothing where it may not be counted.
@@ -64,13 +53,9 @@ impl PointTable {
         ensures { points_of self.new ≡ with_shedding (points_of self.old) number seconds }
     {
         if self.is_counted(number, seconds) {
-            let index = number as usize - 1;
-            let point = self.points[index];
-            self.points[index] = Point {
-                supplier: point.supplier,
-                count: point.count + 1,
-                seconds: point.seconds + seconds,
-            };
+            let point = &mut self.points[number as usize - 1];
+            point.count += 1;
+            point.seconds += seconds;
             self.sheddings += 1;
         }
     }

@@ -1,12 +1,17 @@
 // What is asked of a table of units, and what is entered.
-ghost use Rattle.std.specs.Prelude.{◌≡◌, false, [], length, if◌then◌else◌, Some, None, MatchOption, nat_le, slice_index_or};
-ghost use Rattle.tables.specs.Entries.{is_numbered, entry};
-ghost use Rattle.tables.specs.Units.{fresh as fresh_row, Stands, Absent, find as row_of, place as place_of, owner_in as owner_in_zone, performance as performance_in, installed as installed_in, slot as slot_of, given as given_in, is_addable as is_addable_to, added, with_performance, with_installation, with_line, change};
+ghost use Rattle.std.specs.Prelude.{◌≡◌, false, [], length, if◌then◌else◌, Some, None, ◌==◌, nat_le, slice_index_or, position};
+ghost use Rattle.std.specs.Fn.{FnOnceReturnsAtMut};
+ghost use Rattle.std.specs.Option.{option_copied};
+ghost use Rattle.numbered.specs.Entries.{entry};
+ghost use Rattle.tables.specs.declared.units.UnitRow.{UnitRow};
+ghost use Rattle.tables.specs.Units.{fresh as fresh_row, find as row_of, place as place_of, owner_in as owner_in_zone, performance as performance_in, installed as installed_in, slot as slot_of, given as given_in, is_addable as is_addable_to, added, with_performance, with_installation, with_line, change as changed_rows};
 ghost use Rattle.tables.specs.Tables.{listed};
 ghost use Rattle.tables.specs.Rows.{owner_company};
 
 use super::{FAMILIES, LINES, Place, UNITS, UnitRow, UnitTable};
-use crate::numbered::index_of;
+use arrayvec::ArrayVec;
+use numbered::{entry_of, is_numbered, set_entry};
+use payers::base::COMPANIES;
 use payers::zone::Owners;
 use worth::{Line, Performance};
 
@@ -14,10 +19,7 @@ use worth::{Line, Performance};
 fn line_index(hour: u64, line: &Line) -> Option<usize>
     ensures { result ≡ (if nat_le 745 hour then None else Some (slot_of hour line.now)) }
 {
-    if hour >= 745 {
-        return None;
-    }
-    Some(hour as usize * 8 + line.kind() as usize - 1)
+    (hour < 745).then(|| hour as usize * 8 + line.kind() as usize - 1)
 }
 
 impl UnitRow {
@@ -39,46 +41,35 @@ impl UnitRow {
     fn performance(&self, family: u64) -> Option<Performance>
         ensures { result ≡ entry 2 None self.now.performances family }
     {
-        let index = index_of(family, 2)?;
-        self.performances[index]
+        entry_of(&self.performances, family, None)
     }
 
     // Whether there is an installation of a family.
     fn is_installed(&self, family: u64) -> bool
         ensures { result ≡ entry 2 false self.now.installed family }
     {
-        match index_of(family, 2) {
-            Some(index) => self.installed[index],
-            None => false,
-        }
+        entry_of(&self.installed, family, false)
     }
 
     // Whether there is a line of this line's kind in the hour.
     fn is_given(&self, hour: u64, line: &Line) -> bool
         ensures { result ≡ (if nat_le 745 hour then false else slice_index_or self.now.given (slot_of hour line.now) false) }
     {
-        match line_index(hour, line) {
-            Some(index) => self.given[index],
-            None => false,
-        }
+        line_index(hour, line).is_some_and(|index| self.given[index])
     }
 
     // Notes the performance in a family.
     fn perform(&mut self, family: u64, performance: Performance)
         ensures { self.new ≡ with_performance family performance self.old }
     {
-        if let Some(index) = index_of(family, 2) {
-            self.performances[index] = Some(performance);
-        }
+        set_entry(&mut self.performances, family, Some(performance));
     }
 
     // Notes an installation of a family.
     fn install(&mut self, family: u64)
         ensures { self.new ≡ with_installation family self.old }
     {
-        if let Some(index) = index_of(family, 2) {
-            self.installed[index] = true;
-        }
+        set_entry(&mut self.installed, family, true);
     }
 
     // Notes a line of this line's kind in the hour.
@@ -97,31 +88,25 @@ impl UnitTable {
         ensures { listed result ≡ [] }
     {
         UnitTable {
-            rows: [UnitRow::fresh(0, 0, 0); UNITS],
-            count: 0,
+            rows: ArrayVec::new(),
         }
     }
 
-    // The index of the row of a unit.
-    fn find(&self, unit: u64) -> Option<usize>
-        ensures { MatchOption result (Absent self.now.rows self.now.count unit) (λ i. Stands self.now.rows self.now.count unit i) }
+    // The row of a unit.
+    fn row(&self, unit: u64) -> Option<&UnitRow>
+        ensures { option_copied result ≡ row_of (listed self.now) unit }
     {
-        for i in 0..self.count {
-            if self.rows[i].number == unit {
-                return Some(i);
-            }
-        }
-        None
+        self.rows.iter().find(|row| row.number == unit)
     }
 
     // Who owns a unit and where it is; None where it is not registered.
     pub fn place(&self, unit: u64) -> Option<Place>
         ensures { result ≡ place_of (row_of (listed self.now) unit) }
     {
-        let index = self.find(unit)?;
+        let row = self.row(unit)?;
         Some(Place {
-            owner: self.rows[index].owner,
-            zone: self.rows[index].zone,
+            owner: row.owner,
+            zone: row.zone,
         })
     }
 
@@ -129,72 +114,74 @@ impl UnitTable {
     pub fn performance(&self, unit: u64, family: u64) -> Option<Performance>
         ensures { result ≡ performance_in family (row_of (listed self.now) unit) }
     {
-        let index = self.find(unit)?;
-        self.rows[index].performance(family)
+        self.row(unit)?.performance(family)
     }
 
     // Whether a unit has an installation of a family.
     pub fn is_installed(&self, unit: u64, family: u64) -> bool
         ensures { result ≡ installed_in family (row_of (listed self.now) unit) }
     {
-        match self.find(unit) {
-            Some(index) => self.rows[index].is_installed(family),
-            None => false,
-        }
+        self.row(unit).is_some_and(|row| row.is_installed(family))
     }
 
     // Whether a unit has a line of this line's kind in the hour.
     pub fn is_given(&self, unit: u64, hour: u64, line: &Line) -> bool
         ensures { result ≡ given_in hour line.now (row_of (listed self.now) unit) }
     {
-        match self.find(unit) {
-            Some(index) => self.rows[index].is_given(hour, line),
-            None => false,
+        self.row(unit).is_some_and(|row| row.is_given(hour, line))
+    }
+
+    // The index of the row of a unit.
+    fn index(&self, unit: u64) -> Option<usize>
+        ensures { result ≡ position (λ row. row.number == unit) (listed self.now) }
+    {
+        self.rows.iter().position(|row| row.number == unit)
+    }
+
+    // Changes the row of a unit, but not its number and owner; nothing where the unit is not registered.
+    fn change<F: FnOnce(&mut UnitRow)>(&mut self, unit: u64, f: F)
+        requires callable { F.IsAlwaysCallable f }
+        requires keeps { (old new : UnitRow) → FnOnceReturnsAtMut F.FnOnce f old tt new → (new.number ≡ old.number) × (new.owner ≡ old.owner) }
+        ensures { (g : UnitRow → UnitRow) → ((old new : UnitRow) → FnOnceReturnsAtMut F.FnOnce f old tt new → new ≡ g old) → listed self.new ≡ changed_rows g (listed self.old) unit }
+    {
+        if let Some(index) = self.index(unit) {
+            f(&mut self.rows[index]);
         }
     }
 
     // Notes a unit's performance in a family; nothing where the unit is not registered.
     pub fn perform(&mut self, unit: u64, family: u64, performance: Performance)
-        ensures { listed self.new ≡ change (with_performance family performance) (listed self.old) unit }
+        ensures { listed self.new ≡ changed_rows (with_performance family performance) (listed self.old) unit }
     {
-        if let Some(index) = self.find(unit) {
-            self.rows[index].perform(family, performance);
-        }
+        self.change(unit, |row| row.perform(family, performance));
     }
 
     // Notes an installation of a unit in a family; nothing where the unit is not registered.
     pub fn install(&mut self, unit: u64, family: u64)
-        ensures { listed self.new ≡ change (with_installation family) (listed self.old) unit }
+        ensures { listed self.new ≡ changed_rows (with_installation family) (listed self.old) unit }
     {
-        if let Some(index) = self.find(unit) {
-            self.rows[index].install(family);
-        }
+        self.change(unit, |row| row.install(family));
     }
 
     // Notes a unit's line in the hour; nothing where the unit is not registered.
     pub fn give(&mut self, unit: u64, hour: u64, line: &Line)
-        ensures { listed self.new ≡ change (with_line hour line.now) (listed self.old) unit }
+        ensures { listed self.new ≡ changed_rows (with_line hour line.now) (listed self.old) unit }
     {
-        if let Some(index) = self.find(unit) {
-            self.rows[index].give(hour, line);
-        }
+        self.change(unit, |row| row.give(hour, line));
     }
 
     // Whether there is no room for another unit.
     pub fn is_full(&self) -> bool
         ensures { result ≡ nat_le 48 (length (listed self.now)) }
     {
-        self.count >= UNITS
+        self.rows.is_full()
     }
 
     // Whether a unit may be added: it is not registered, there is room, and the owner is a company's number.
     fn is_addable(&self, number: u64, owner: u64) -> bool
         ensures { result ≡ is_addable_to (listed self.now) number owner }
     {
-        match self.find(number) {
-            Some(_) => false,
-            None => !self.is_full() && 1 <= owner && owner <= 32,
-        }
+        self.row(number).is_none() && !self.is_full() && is_numbered(owner, COMPANIES)
     }
 
     // Registers a unit; nothing where it may not be added.
@@ -202,8 +189,7 @@ impl UnitTable {
         ensures { listed self.new ≡ added (listed self.old) number owner zone }
     {
         if self.is_addable(number, owner) {
-            self.rows[self.count] = UnitRow::fresh(number, owner, zone);
-            self.count += 1;
+            self.rows.push(UnitRow::fresh(number, owner, zone));
         }
     }
 }
@@ -216,10 +202,6 @@ impl Owners for UnitTable {
 
     fn owner_in(&self, unit: u64, zone: u64) -> Option<u64> {
         let place = self.place(unit)?;
-        if place.zone == zone {
-            Some(place.owner)
-        } else {
-            None
-        }
+        (place.zone == zone).then_some(place.owner)
     }
 }

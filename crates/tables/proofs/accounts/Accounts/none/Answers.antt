@@ -1,4 +1,4 @@
-use Rattle.std.proofs.Common.{ℕ, refl, arith, rules}
+use Rattle.std.proofs.Common.{ℕ, length, ap, refl, ◌≤◌, arith, rules}
 use Rattle.tables.proofs.Entries.{getD_all}
 use Rattle.tables.proofs.accounts.Accounts.none.Goals as goal
 
@@ -7,8 +7,7 @@ invariant_of-result c =
     record {
       earned_long = search rules;
       services_long = search rules;
-      sheddings_long = search rules;
-      few = omega arith;
+      few = omega (arith, ap length c.new.ensures);
       light = omega arith;
       earned_sum = refl;
       earned_small = λ k. omega (arith, getD_all {X = ℕ} 0 32 k);
