@@ -36,7 +36,7 @@ module _ (r : Result (Unit {0}) Clearing) (new old written : List ℕ) where
   by_room true a er en ea = (
     λ ok. let z : ◌≡◌ {A = ℕ} 0 1 = cc in absurd (omega arith),
     λ e err.
-    let same : e ≡ Clearing.Short = cc in (ap (λ x. Err (of_clearing x)) same ∙ sym ea, en ∙ sym (ap (λ x. on_ok x written old) ea)),
+        let same : e ≡ Clearing.Short = cc in (ap (λ x. Err (of_clearing x)) same ∙ sym ea, en ∙ sym (ap (λ x. on_ok x written old) ea)),
   )
   by_room false a er en ea = (
     λ ok. (sym ea, en ∙ sym (ap (λ x. on_ok x written old) ea)),

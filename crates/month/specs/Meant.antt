@@ -29,10 +29,10 @@ meant_post items (Post.Replace old new) = replace old new
 meant_post items (Post.Unit n o z) = unit n o z
 meant_post items (Post.Performance u f p) = performance u f p
 meant_post items (Post.Line u hour f l) = line u hour f l
-meant_post items (Post.Installation u f a m) = installation u f a m
+meant_post items (Post.Installation u f i) = installation u f i.annuity i.maintenance
 meant_post items (Post.Meter c w i) = meter c w i
 meant_post items (Post.Point n s) = point n s
-meant_post items (Post.Shed p kw s z rs) = shed p kw s z (items rs)
+meant_post items (Post.Shed p s z rs) = shed p s.kw s.seconds z (items rs)
 
 abbrev pub meant : {T R : Type 0} → (T → List Reading) → Call T R → Meant R
 meant items (Call.Post p) = post (meant_post items p)

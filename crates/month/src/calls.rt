@@ -1,5 +1,5 @@
 // The calls on a month, with any figures.
-use worth::{Line, Performance};
+use worth::{Installation, Line, Performance, Shedding};
 
 // The figures that a month is opened with.
 #[derive(Clone, Copy)]
@@ -40,8 +40,7 @@ pub enum Post<T> {
     Installation {
         unit: u64,
         family: u64,
-        annuity: u64,
-        maintenance: u64,
+        installation: Installation,
     },
     Meter {
         company: u64,
@@ -54,8 +53,7 @@ pub enum Post<T> {
     },
     Shed {
         point: u64,
-        kw: u64,
-        seconds: u64,
+        shedding: Shedding,
         zone: u64,
         readings: T,
     },

@@ -7,10 +7,7 @@ use crate::calls::Terms;
 use crate::readings::unit_outside_in;
 use payers::meters::FIGURE_LIMIT;
 use payers::readings::{Reading, are_readings};
-use worth::{
-    Family, HIGHEST_FAILURE_COST, Line, Performance, installation_within_limits,
-    shedding_within_limits,
-};
+use worth::{Family, HIGHEST_FAILURE_COST, Installation, Line, Performance, Shedding};
 
 // Whether a number is outside its limits.
 pub(crate) fn outside(low: u64, high: u64, x: u64) -> bool
@@ -23,20 +20,14 @@ pub(crate) fn outside(low: u64, high: u64, x: u64) -> bool
 fn no_family(family: u64) -> bool
     ensures { result ≡ is_no_family family }
 {
-    match Family::numbered(family) {
-        Some(_) => false,
-        None => true,
-    }
+    Family::try_from(family).is_err()
 }
 
 // Whether a family is none, or one that the kind of a line does not allow.
 fn disallowed(line: &Line, family: u64) -> bool
     ensures { result ≡ is_disallowed line.now (numbered family) }
 {
-    match Family::numbered(family) {
-        Some(family) => !line.allows(family),
-        None => true,
-    }
+    Family::try_from(family).map_or(true, |family| !line.allows(family))
 }
 
 // Whether a period is no month of the years 2000 to 2099, as YYYYMM.
@@ -85,10 +76,10 @@ pub(crate) fn line_outside(terms: &Terms, unit: u64, hour: u64, family: u64, lin
         || !line.within_limits()
 }
 
-pub(crate) fn installation_outside(unit: u64, family: u64, annuity: u64, maintenance: u64) -> bool
-    ensures { result ≡ is_installation_outside unit family annuity maintenance }
+pub(crate) fn installation_outside(unit: u64, family: u64, installation: &Installation) -> bool
+    ensures { result ≡ is_installation_outside unit family installation.now.annuity installation.now.maintenance }
 {
-    outside(1, 255, unit) || no_family(family) || !installation_within_limits(annuity, maintenance)
+    outside(1, 255, unit) || no_family(family) || !installation.within_limits()
 }
 
 pub(crate) fn meter_outside(company: u64, withdrawals: u64, injections: u64) -> bool
@@ -97,17 +88,11 @@ pub(crate) fn meter_outside(company: u64, withdrawals: u64, injections: u64) -> 
     outside(1, 32, company) || withdrawals > FIGURE_LIMIT || injections > FIGURE_LIMIT
 }
 
-pub(crate) fn shed_outside(
-    point: u64,
-    kw: u64,
-    seconds: u64,
-    zone: u64,
-    readings: &[Reading],
-) -> bool
-    ensures { result ≡ is_shed_outside point kw seconds zone readings.now }
+pub(crate) fn shed_outside(point: u64, shedding: &Shedding, zone: u64, readings: &[Reading]) -> bool
+    ensures { result ≡ is_shed_outside point shedding.now.kw shedding.now.seconds zone readings.now }
 {
     outside(1, 32, point)
-        || !shedding_within_limits(kw, seconds)
+        || !shedding.within_limits()
         || zone > 15
         || !are_readings(readings)
         || unit_outside_in(readings)

@@ -76,6 +76,25 @@ module _ (ps : List ℕ) (each : (k : ℕ) → k < 32 → TakesPart ps k) where
         (cases_eq company one))
         ∙ sum_only company (weight_of ws company) 1 32 (grind (arith, nat_tests)) (grind (arith, nat_tests))
 
+    -- a number that is no company's takes part for nobody
+    none_moved : (company : ℕ) → is_company company ≡ false → weight_moved ps ws company ≡ 0
+    unfolding weight_moved
+    none_moved company none =
+        sum_same (part_moved ps ws company) (λ _. 0) 1 32
+        (λ one low high.
+        let l = participant_low one low high in
+        let h = participant_high one low high in
+        only_elsewhere (participant_of ps one) (weight_of ws one) company (λ takes. grind (arith, nat_tests)))
+        ∙ sum_zero (range_with_len 1 32)
+
+    -- what is moved to any number, a company's or not
+    pub moved_any : (company : ℕ) → weight_of (moved ps ws) company ≡ weight_moved ps ws company
+    moved_any company =
+        ⊎_elim
+        (λ there. moved_weight ps ws company there)
+        (λ none. cond-false (is_company company) _ 0 none ∙ sym (none_moved company none))
+        (cases_Bool (is_company company))
+
     pub moves : Moves ps ws (moved ps ws)
     moves = record {
       total = moved_total;

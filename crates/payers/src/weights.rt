@@ -1,5 +1,5 @@
 // What our bases weigh: the bases over the meters and the zone's hour, held as a list, and each base under replacement.
-ghost use Rattle.std.specs.Prelude.{◌≡◌, ◌≤◌, length, replicate, sum};
+ghost use Rattle.std.specs.Prelude.{◌≡◌, ◌<◌, ◌≤◌, length, replicate, sum, MatchOption};
 ghost use Rattle.prorating.specs.Weights.{limit};
 ghost use Rattle.payers.specs.Replacements.{Moves};
 
@@ -7,6 +7,7 @@ use crate::base::{COMPANIES, PayerBase};
 use crate::charging::weights_of;
 use crate::replacement::{Replacement, Replacements};
 use numbered::entry_of;
+use prorating::weights::Weights;
 
 // The weight of each company, held as a list. The type keeps the total within the limit of a weight list.
 #[derive(Clone, Copy)]
@@ -22,6 +23,16 @@ impl CompanyWeights {
         ensures { result.at ≡ replicate 32 0 }
     {
         CompanyWeights { at: [0; COMPANIES] }
+    }
+
+    // The base of these weights, that of company 1 first; None where their total is above the limit of a weight list.
+    pub fn of(weights: &[u64; COMPANIES]) -> Option<CompanyWeights>
+        ensures { MatchOption result (limit < sum weights.now) (λ base. base.at ≡ weights.now) }
+    {
+        if Weights::of(weights).is_err() {
+            return None;
+        }
+        Some(CompanyWeights { at: *weights })
     }
 
     // What each company weighs, as a list that a caller gets: that of company 1 first.

@@ -1,7 +1,7 @@
 // What a settled or final month answers.
-ghost use Rattle.std.specs.Prelude.{◌≡◌, ◌*◌, ◌≤◌, true, false, MatchResult};
+ghost use Rattle.std.specs.Prelude.{◌≡◌, ◌≤◌, true, false, MatchResult};
 ghost use Rattle.prorating.specs.Weights.{limit};
-ghost use Rattle.payers.specs.Replacements.{part_moved, weight_moved};
+ghost use Rattle.payers.specs.Replacements.{weight_moved};
 ghost use Rattle.month.specs.Answers.{is_charged, figures_answer, charge_answer, answer_if_any, outcome_answer};
 ghost use Rattle.month.specs.Book.{book};
 ghost use Rattle.month.specs.declared.refusal.Refusal.TheVariants.{Stage as StageRefusal};
@@ -10,7 +10,8 @@ use super::{Charges, Month, Stage};
 use crate::figures::{Figures, Outcome};
 use crate::limits::outside;
 use crate::refusal::Refusal;
-use payers::base::COMPANIES;
+use payers::base::PayerBase;
+use payers::replacement::Replacement;
 use std::array;
 
 impl Month {
@@ -24,28 +25,12 @@ impl Month {
         }
     }
 
-    // What one company earned adds to another's credit: all of it where the other takes part for it, which may be itself.
-    fn part(&self, company: u64, one: u64) -> u64
-        ensures is { result ≡ part_moved (book self.now).participants (book self.now).accounts.earned company one }
-        ensures small { result ≤ limit }
-    {
-        if self.replacements.participant(one) == company {
-            self.accounts.earned(one)
-        } else {
-            0
-        }
-    }
-
     // What a company earned, with what those earned that it takes part for; 0 where it is replaced.
     pub(super) fn credit(&self, company: u64) -> u64
         ensures is { result ≡ weight_moved (book self.now).participants (book self.now).accounts.earned company }
-        ensures small { result ≤ 32 * limit }
+        ensures small { result ≤ limit }
     {
-        let mut cents = 0;
-        for k in 0..COMPANIES {
-            cents += self.part(company, k as u64 + 1);
-        }
-        cents
+        Replacement::over(self.accounts.earnings(), self.replacements).weight(company)
     }
 
     // A company's credit, its charge over all pots and its net.

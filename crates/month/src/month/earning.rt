@@ -10,7 +10,7 @@ use crate::readings::twice;
 use crate::refusal::Refusal;
 use payers::charging::total_weight;
 use payers::readings::Reading;
-use worth::{Line, installation_worth};
+use worth::{Installation, Line, Shedding};
 
 impl Month {
     // Posts a line of a unit in an hour. Its worth joins the pot of its family and the earnings of the unit's owner.
@@ -43,21 +43,20 @@ impl Month {
         &mut self,
         unit: u64,
         family: u64,
-        annuity: u64,
-        maintenance: u64,
+        installation: Installation,
     ) -> Result<(), Refusal>
-        ensures answer { result ≡ post_answer (book self.old) (an_installation unit family annuity maintenance) }
-        ensures after { book self.new ≡ post_after (book self.old) (an_installation unit family annuity maintenance) }
+        ensures answer { result ≡ post_answer (book self.old) (an_installation unit family installation.annuity installation.maintenance) }
+        ensures after { book self.new ≡ post_after (book self.old) (an_installation unit family installation.annuity installation.maintenance) }
     {
         self.takes_posts()?;
-        if installation_outside(unit, family, annuity, maintenance) {
+        if installation_outside(unit, family, &installation) {
             return Err(Refusal::Limits);
         }
         let place = self.units.place(unit).ok_or(Refusal::Unregistered)?;
         if self.units.is_installed(unit, family) {
             return Err(Refusal::Again);
         }
-        let cents = installation_worth(annuity, maintenance);
+        let cents = installation.worth();
         if self.accounts.passes(cents) {
             return Err(Refusal::Credits);
         }
@@ -78,16 +77,15 @@ impl Month {
     pub fn shed(
         &mut self,
         point: u64,
-        kw: u64,
-        seconds: u64,
+        shedding: Shedding,
         zone: u64,
         readings: &[Reading],
     ) -> Result<(), Refusal>
-        ensures answer { result ≡ post_answer (book self.old) (a_shed point kw seconds zone readings.now) }
-        ensures after { book self.new ≡ post_after (book self.old) (a_shed point kw seconds zone readings.now) }
+        ensures answer { result ≡ post_answer (book self.old) (a_shed point shedding.kw shedding.seconds zone readings.now) }
+        ensures after { book self.new ≡ post_after (book self.old) (a_shed point shedding.kw shedding.seconds zone readings.now) }
     {
         self.takes_posts()?;
-        if shed_outside(point, kw, seconds, zone, readings) {
+        if shed_outside(point, &shedding, zone, readings) {
             return Err(Refusal::Limits);
         }
         let supplier = self
@@ -101,7 +99,7 @@ impl Month {
         if twice(readings) {
             return Err(Refusal::Again);
         }
-        let cents = self.shed_worth(point, kw, seconds);
+        let cents = self.shed_worth(point, &shedding);
         if self.is_full_for(cents) {
             return Err(Refusal::Full);
         }
@@ -112,7 +110,7 @@ impl Month {
         if cents > 0 && total_weight(&hour) == 0 {
             return Err(Refusal::NoWeight);
         }
-        self.points.shed(point, seconds);
+        self.points.shed(point, shedding.seconds);
         self.accounts.shed(supplier, cents, hour);
         Ok(())
     }

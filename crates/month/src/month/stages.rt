@@ -93,9 +93,8 @@ impl Month {
             Post::Installation {
                 unit,
                 family,
-                annuity,
-                maintenance,
-            } => self.installation(*unit, *family, *annuity, *maintenance),
+                installation,
+            } => self.installation(*unit, *family, *installation),
             Post::Meter {
                 company,
                 withdrawals,
@@ -104,11 +103,10 @@ impl Month {
             Post::Point { number, supplier } => self.point(*number, *supplier),
             Post::Shed {
                 point,
-                kw,
-                seconds,
+                shedding,
                 zone,
                 readings,
-            } => self.shed(*point, *kw, *seconds, *zone, readings.as_slice()),
+            } => self.shed(*point, *shedding, *zone, readings.as_slice()),
         }
     }
 

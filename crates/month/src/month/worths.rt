@@ -13,8 +13,9 @@ ghost use Rattle.month.specs.Table.{line_worth, shed_worth, shed_weights, some_r
 
 use super::Month;
 use payers::readings::Reading;
-use payers::zone::ZoneHour;
-use worth::{Family, Line, UnpaidLimits, paid, shedding_worth};
+use payers::weights::CompanyWeights;
+use payers::zone::zone_weights;
+use worth::{Family, Line, Shedding, UnpaidLimits};
 
 impl Month {
     // The performance factor of a unit in a family; 0 where none is given.
@@ -22,7 +23,7 @@ impl Month {
         ensures value { result ≡ factor_in (book self.now).terms.hours (numbered family) ((shown (book self.now)).performed unit family) }
         ensures at_most_whole { result ≤ whole }
     {
-        let Some(service) = Family::numbered(family) else {
+        let Ok(service) = Family::try_from(family) else {
             return 0;
         };
         self.units.performance(unit, family).map_or(
@@ -50,27 +51,27 @@ impl Month {
     }
 
     // What a shedding is worth, whose figures are within their limits: nothing where it is unpaid.
-    pub(super) fn shed_worth(&self, point: u64, kw: u64, seconds: u64) -> u64
-        requires { shedding_within kw seconds ≡ true }
-        ensures { result ≡ shed_worth (shown (book self.now)) point kw seconds }
+    pub(super) fn shed_worth(&self, point: u64, shedding: &Shedding) -> u64
+        requires { shedding_within shedding.now.kw shedding.now.seconds ≡ true }
+        ensures { result ≡ shed_worth (shown (book self.now)) point shedding.now.kw shedding.now.seconds }
     {
         let before = self.points.point(point);
         let limits = UnpaidLimits {
             count: self.terms.count,
             seconds: self.terms.seconds,
         };
-        if !paid(before.count + 1, before.seconds + seconds, limits) {
+        if !limits.pays(before.count + 1, before.seconds + shedding.seconds) {
             return 0;
         }
-        shedding_worth(self.terms.failure_cost, kw, seconds).unwrap()
+        shedding.worth(self.terms.failure_cost).unwrap()
     }
 
     // Who was injecting in a zone, by readings that a shedding may bring.
-    pub(super) fn zone_hour(&self, zone: u64, readings: &[Reading]) -> ZoneHour
+    pub(super) fn zone_hour(&self, zone: u64, readings: &[Reading]) -> CompanyWeights
         requires { are_readings readings.now ≡ true }
-        ensures { result.kwh ≡ shed_weights (shown (book self.now)) zone readings.now }
+        ensures { result.at ≡ shed_weights (shown (book self.now)) zone readings.now }
     {
-        ZoneHour::of(readings, &self.units, zone).unwrap()
+        zone_weights(readings, &self.units, zone).unwrap()
     }
 
     // Whether a reading is of a unit that is not registered.

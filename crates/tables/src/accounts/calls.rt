@@ -48,6 +48,13 @@ impl Accounts {
         entry_of(&self.earned, company, 0)
     }
 
+    // What the companies earned, as a base.
+    pub fn earnings(&self) -> CompanyWeights
+        ensures { result.at ≡ (held self.now).earned }
+    {
+        CompanyWeights::of(&self.earned).unwrap()
+    }
+
     // What the pot of a service has to pay: 1 frequency, 2 voltage, 3 installations; 0 for any other number.
     pub fn service(&self, service: u64) -> u64
         ensures { result ≡ entry 3 0 (held self.now).services service }

@@ -1,32 +1,22 @@
-use Rattle.std.proofs.Common.{◌≡◌, ℕ, ◌+◌, sum_by, sym, refl, ap, ◌∙◌, arith}
-use Rattle.std.specs.List.{range_with_len}
-use Rattle.payers.specs.Replacements.{part_moved, weight_moved}
-use Rattle.payers.specs.Runs.{sum_next}
-use Rattle.month.specs.Book.{book}
+use Rattle.std.proofs.Common.{◌≡◌, ◌≤◌, sum, ap, ◌∙◌, arith}
+use Rattle.payers.specs.Bases.{weight_of}
+use Rattle.payers.specs.Replacements.{weight_moved, moved}
+use Rattle.payers.specs.Moved.{part_small, moved_any}
 use Rattle.month.proofs.month.Month.credit.Goals as goal
-
-pub overflow_add-cents : goal.overflow_add-cents
-overflow_add-cents c = omega (arith, c.loop-k.invariant.1, c.part-cents.ensures.small)
-
-pub loop-k-init : goal.loop-k-init
-loop-k-init c = (refl, omega arith)
-
-pub loop-k-preserved : goal.loop-k-preserved
-loop-k-preserved c =
-    let b = book c.args.self.now in
-    let f : ℕ → ℕ = part_moved b.participants b.accounts.earned c.args.company in (
-      ap (λ n. n + c.part-cents.result) c.loop-k.invariant.0
-          ∙ ap (λ x. sum_by f (range_with_len 1 c.loop-k.k) + x) c.part-cents.ensures.is
-          ∙ sym (sum_next f 1 c.loop-k.k (c.loop-k.k + 1) (omega arith)),
-      omega (arith, c.loop-k.invariant.1, c.part-cents.ensures.small),
-    )
 
 pub returns : goal.returns
 unfolding weight_moved
 returns c =
-    let b = book c.args.self.now in
-    let all : c.loop-k.k ≡ 32 = omega arith in
+    let m = c.args.self.now in
+    let ps = m.replacements.participants in
+    let earned = m.accounts.earned in
+    let base = ap (λ b. b.at) c.over.ensures.made.0 ∙ c.earnings.ensures in
+    let is : c.weight.result ≡ weight_moved ps earned c.args.company =
+    c.weight.ensures
+    ∙ ap (λ qs. weight_of (moved qs c.over.result.base.at) c.args.company) c.over.ensures.made.1
+    ∙ ap (λ ws. weight_of (moved ps ws) c.args.company) base
+    ∙ moved_any ps m.replacements.each earned m.accounts.earned_long c.args.company in
     record {
-      is = c.loop-k.invariant.0 ∙ ap (λ n. sum_by (part_moved b.participants b.accounts.earned c.args.company) (range_with_len 1 n)) all;
-      small = omega (arith, c.loop-k.invariant.1);
+      is = is;
+      small = omega (arith, is, part_small ps earned m.accounts.earned_long c.args.company 32 (omega arith), m.accounts.earned_sum, m.accounts.light);
     }
