@@ -1,5 +1,6 @@
 -- The charges of a pot, and the pots by index.
-use Rattle.std.proofs.Common.{sum_by, ◌≡◌, ℕ, zero, suc, ◌-◌, ◌<◌, ◌≤◌, Bool, true, false, cond, ltb, leb, List, [], ◌∷◌, length, get_or, set, replicate, sum, sym, refl, ap, ◌∙◌, subst, ⊎_elim, arith}
+use Rattle.std.specs.List.{list_any}
+use Rattle.std.proofs.Common.{◌||◌, map, sum_by, ◌≡◌, ℕ, zero, suc, ◌-◌, ◌<◌, ◌≤◌, Bool, true, false, cond, ltb, leb, List, [], ◌∷◌, length, get_or, set, replicate, sum, sym, refl, ap, ◌∙◌, subst, ⊎_elim, arith}
 use Rattle.std.proofs.lemmas.Bool.{and_parts, leb-true, cases_eq, cases_lt}
 use Rattle.std.proofs.lemmas.List.{get_or-set_same, get_or-set_other, get_or-replicate, length-replicate, get_or_past}
 use Rattle.tables.proofs.Entries.{getD_all}
@@ -70,3 +71,8 @@ zeros_small p c = go 19
         (λ inside. subst (λ r. get_or r c 0 ≤ limit) (sym (get_or-replicate n p (replicate 32 0) [] inside)) (none 32))
         (λ past. subst (λ r. get_or r c 0 ≤ limit) (sym (get_or_past (replicate n (replicate 32 0)) p [] (omega (arith, length-replicate n (replicate {A = ℕ} 32 0))))) (omega arith))
         (cases_lt p n)
+
+-- a test of each pot, and of what each stands for
+pub any_map : {X Y : Type 0} (test : Y → Bool) (f : X → Y) (xs : List X) → list_any (λ x. test (f x)) xs ≡ list_any test (map f xs)
+any_map test f [] = refl
+any_map test f (x ∷ xs) = ap (λ t. test (f x) || t) (any_map test f xs)

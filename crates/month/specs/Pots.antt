@@ -1,6 +1,6 @@
 -- The pots of a month: whether one has nobody to pay it, and what is charged of each.
-use Rattle.std.specs.Prelude.{ℕ, Bool, false, ◌||◌, List, [], ◌∷◌, map, replicate, Some, None, Option}
-use Rattle.std.specs.List.{range_with_len}
+use Rattle.std.specs.Prelude.{ℕ, Bool, List, map, replicate, Some, None, Option}
+use Rattle.std.specs.List.{range_with_len, list_any}
 use Rattle.prorating.specs.Laws.{Sharing}
 use Rattle.payers.specs.Charges.{charges_of}
 use Rattle.payers.specs.Replacements.{moved}
@@ -9,8 +9,7 @@ use Rattle.month.specs.Seen.{strands}
 
 -- Whether one of some pots has nobody to pay it.
 abbrev pub some_strands : List Pot → Bool
-some_strands [] = false
-some_strands (p ∷ ps) = strands p.cents p.weights || some_strands ps
+some_strands ps = list_any (λ p. strands p.cents p.weights) ps
 
 -- The charges of the pot at an index over its weights under replacement, 0 for pot 1. An unused pot charges nobody.
 abbrev pub charges_by : Sharing → List ℕ → Option Pot → List ℕ

@@ -1,19 +1,20 @@
 // The charges of a settled month.
-ghost use Rattle.std.specs.Prelude.{◌≡◌, ℕ, ◌+◌, ◌*◌, ◌<◌, ◌≤◌, [], ◌++◌, slice_index};
+ghost use Rattle.std.specs.Prelude.{◌≡◌, ℕ, ◌+◌, ◌*◌, ◌<◌, ◌≤◌, [], ◌++◌, slice_index, map, Some, None, MatchOption};
 ghost use Rattle.prorating.specs.Weights.{limit};
-ghost use Rattle.payers.specs.Charges.{charges_of};
-ghost use Rattle.payers.specs.Replacements.{moved};
 ghost use Rattle.month.specs.Book.{book};
 ghost use Rattle.month.specs.Figures.{charge_at, charge_over};
 ghost use Rattle.month.specs.Pots.{pot_charges, charged as charged_by};
-ghost use Rattle.month.specs.Steps.{all_pots};
+ghost use Rattle.month.specs.Steps.{service_pots, all_pots};
+ghost use Rattle.tables.specs.Accounts.{pot_at};
+ghost use Rattle.tables.specs.Tables.{shed_pot};
 
 use super::{Charges, Month, POTS};
 use numbered::{entry_of, index_of};
-use payers::base::{COMPANIES, PayerBase};
+use payers::base::COMPANIES;
 use payers::charging::charges;
 use payers::replacement::Replacement;
 use prorating::rule::Rule;
+use tables::accounts::{SERVICES, ShedPot};
 
 impl Charges {
     // What a company is charged of a pot; 0 for numbers that are none of 1 to 32 and 1 to 19.
@@ -41,33 +42,47 @@ impl Charges {
 }
 
 impl Month {
-    // The charges of a pot over a base under replacement.
-    fn charges_over<B: PayerBase + Drop, R: Rule>(
-        &self,
-        cents: u64,
-        base: B,
-        rule: &R,
-    ) -> [u64; COMPANIES]
-        ensures meant { result ≡ charges_of (R.Rule.shares rule.now) cents (moved (book self.now).participants (B.PayerBase.weights base)) }
-        ensures small { (k : ℕ) → slice_index result k ≤ limit }
+    // The pots of services: frequency and voltage over what was withdrawn, installations over what was injected.
+    pub(super) fn service_pots(&self) -> [ShedPot; SERVICES]
+        ensures { map shed_pot result ≡ service_pots (book self.now) }
     {
-        charges(cents, &Replacement::over(base, self.replacements), rule)
+        let withdrawals = self.meters.withdrawals();
+        [
+            ShedPot {
+                cents: self.accounts.service(1),
+                base: withdrawals,
+            },
+            ShedPot {
+                cents: self.accounts.service(2),
+                base: withdrawals,
+            },
+            ShedPot {
+                cents: self.accounts.service(3),
+                base: self.meters.injections(),
+            },
+        ]
     }
 
-    // The charges of the pot at an index, 0 for pot 1. An unused pot charges nobody.
+    // The pot at an index, 0 for pot 1; None where it is unused.
+    fn pot(&self, index: usize) -> Option<ShedPot>
+        ensures { MatchOption result (pot_at (all_pots (book self.now)) index ≡ None) (λ p. pot_at (all_pots (book self.now)) index ≡ Some (shed_pot p)) }
+    {
+        match index.checked_sub(SERVICES) {
+            Some(shedding) => self.accounts.shedding(shedding),
+            None => Some(self.service_pots()[index]),
+        }
+    }
+
+    // The charges of the pot at an index. An unused pot charges nobody.
     fn pot_charges<R: Rule>(&self, index: usize, rule: &R) -> [u64; COMPANIES]
         ensures meant { result ≡ pot_charges (R.Rule.shares rule.now) (book self.now).participants (all_pots (book self.now)) index }
         ensures small { (k : ℕ) → slice_index result k ≤ limit }
     {
-        match index {
-            0 => self.charges_over(self.accounts.service(1), self.meters.withdrawals(), rule),
-            1 => self.charges_over(self.accounts.service(2), self.meters.withdrawals(), rule),
-            2 => self.charges_over(self.accounts.service(3), self.meters.injections(), rule),
-            _ => match self.accounts.shedding(index - 3) {
-                Some(pot) => self.charges_over(pot.cents, pot.base, rule),
-                None => [0; COMPANIES],
-            },
-        }
+        let Some(pot) = self.pot(index) else {
+            return [0; COMPANIES];
+        };
+        let base = Replacement::over(pot.base, self.replacements);
+        charges(pot.cents, &base, rule)
     }
 
     // The charges of all pots by a rule.

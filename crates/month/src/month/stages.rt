@@ -1,5 +1,6 @@
 // The calls that move the stage, and every call.
 ghost use Rattle.std.specs.Prelude.{◌≡◌};
+ghost use Rattle.std.specs.List.{list_any};
 ghost use Rattle.month.specs.Book.{book};
 ghost use Rattle.month.specs.Meant.{meant, meant_post};
 ghost use Rattle.month.specs.Pots.{some_strands};
@@ -14,6 +15,7 @@ use payers::charging::total_weight;
 use payers::readings::Reading;
 use prorating::rule::Rule;
 use std::convert::AsSlice;
+use tables::accounts::ShedPot;
 
 // Whether a pot above 0 has nobody to pay it.
 fn is_stranded<B: PayerBase>(cents: u64, base: &B) -> bool
@@ -22,15 +24,19 @@ fn is_stranded<B: PayerBase>(cents: u64, base: &B) -> bool
     cents > 0 && total_weight(base) == 0
 }
 
+// Whether one of some pots has nobody to pay it.
+fn are_some_stranded(pots: &[ShedPot]) -> bool
+    ensures { result ≡ list_any (λ p. strands p.cents p.base.at) pots.now }
+{
+    pots.iter().any(|pot| is_stranded(pot.cents, &pot.base))
+}
+
 impl Month {
     // Whether a pot of a service has nobody to pay it.
     fn is_service_stranded(&self) -> bool
         ensures { result ≡ some_strands (service_pots (book self.now)) }
     {
-        let withdrawals = self.meters.withdrawals();
-        is_stranded(self.accounts.service(1), &withdrawals)
-            || is_stranded(self.accounts.service(2), &withdrawals)
-            || is_stranded(self.accounts.service(3), &self.meters.injections())
+        are_some_stranded(&self.service_pots())
     }
 
     // Opens a blank month, settles an open one by a rule, opens a settled one again, which drops its charges, or makes it final.
