@@ -15,9 +15,9 @@ pub const UNITS: usize = 48;
 pub const FAMILIES: usize = 2;
 
 // How many hours the longest month has, how many kinds of line an hour, and how many lines all of them together.
-pub const HOURS: usize = 745;
+const HOURS: usize = 745;
 
-pub const KINDS: usize = 8;
+const KINDS: usize = 8;
 
 pub const LINES: usize = HOURS * KINDS;
 

@@ -16,6 +16,7 @@ use payers::zone::Owners;
 use worth::{Line, Performance};
 
 // Where an hour's line of a kind stands in a row; None where no month has such an hour.
+// Kept: the hour and the line are two parameters here and below, since a caller has them apart, and would make a pair for the call alone.
 fn line_index(hour: u64, line: &Line) -> Option<usize>
     ensures { result ≡ (if nat_le 745 hour then None else Some (slot_of hour line.now)) }
 {
