@@ -2,17 +2,13 @@
 use Rattle.std.proofs.Common.{◌≡◌, ℕ, Bool, true, false, cond, not, eqb, List, [], ◌∷◌, ◌++◌, is_some, Some, None, Option, sym, refl, ap, ◌∙◌, true≢false}
 use Rattle.std.specs.Option.{option_or}
 use Rattle.std.proofs.lemmas.Bool.{eqb-false, ne_eqb, and_parts, and_from, not-true}
-use Rattle.std.proofs.lemmas.List.Folds.{find-append}
+use Rattle.std.proofs.lemmas.List.Folds.{find-append, list_all-append}
 use Rattle.payers.specs.Bases.{is_company}
 use Rattle.tables.specs.declared.units.UnitRow.{UnitRow}
 use Rattle.tables.specs.Units.{fresh, find, are_owned, are_distinct, is_addable}
 
 pub find_added : (xs : List UnitRow) (r : UnitRow) (v : ℕ) → find (xs ++ r ∷ []) v ≡ option_or (find xs v) (cond (eqb r.number v) (Some r) None)
 find_added xs r v = find-append (λ x. eqb x.number v) xs (r ∷ [])
-
-owned_added : (xs : List UnitRow) (r : UnitRow) → is_company r.owner ≡ true → are_owned xs ≡ true → are_owned (xs ++ r ∷ []) ≡ true
-owned_added [] r new e = and_from _ _ new refl
-owned_added (x ∷ xs) r new e = let both = and_parts _ _ e in and_from _ _ both.0 (owned_added xs r new both.1)
 
 pub is_none : {X : Type 0} (o : Option X) → is_some o ≡ false → o ≡ None
 is_none None e = refl
@@ -35,5 +31,7 @@ distinct_added (x ∷ xs) r new e = go (eqb x.number r.number) refl new (and_par
 -- a table with one unit more is what every table is
 pub added_kept : (rows : List UnitRow) (number owner zone : ℕ) → is_addable rows number owner ≡ true → are_owned rows ≡ true → are_distinct rows ≡ true → (are_owned (rows ++ fresh number owner zone ∷ []) ≡ true) × (are_distinct (rows ++ fresh number owner zone ∷ []) ≡ true)
 added_kept rows number owner zone told owned once =
-    let both = and_parts _ _ told in
-    (owned_added rows (fresh number owner zone) (and_parts _ _ both.1).1 owned, distinct_added rows (fresh number owner zone) (not-true _ both.0) once)
+    let both = and_parts _ _ told in (
+      list_all-append (λ r. is_company r.owner) rows (fresh number owner zone ∷ []) ∙ and_from _ _ owned (and_from _ _ (and_parts _ _ both.1).1 refl),
+      distinct_added rows (fresh number owner zone) (not-true _ both.0) once,
+    )

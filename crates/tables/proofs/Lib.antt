@@ -1,3 +1,4 @@
 pub mod Entries
 pub mod Added
 pub mod Pots
+pub mod Changed

@@ -106,9 +106,10 @@ like new r =
 pub kept : (rows : List UnitRow) (u i : ℕ) (new : UnitRow) → Stands rows u i → new.number ≡ (slice_index_or rows i no_row).number → new.owner ≡ (slice_index_or rows i no_row).owner → are_owned rows ≡ true → are_distinct rows ≡ true → (are_owned (slice_set rows i new) ≡ true) × (are_distinct (slice_set rows i new) ≡ true)
 kept rows u i new there number owner owned once =
     let same : new ≡ like new (slice_index_or rows i no_row) = λ k. record { number = number k; owner = owner k; zone = new.zone; performances = new.performances; installed = new.installed; given = new.given } in
-    let now : slice_set rows i new ≡ change (like new) rows u = ap (slice_set rows i) same ∙ there.changed (like new) in
-    (ap are_owned now ∙ change_owned (like new) (λ r. refl) (λ r. refl) rows u ∙ owned,
-    ap are_distinct now ∙ change_distinct (like new) (λ r. refl) (λ r. refl) rows u once)
+    let now : slice_set rows i new ≡ change (like new) rows u = ap (slice_set rows i) same ∙ there.changed (like new) in (
+      ap are_owned now ∙ change_owned (like new) (λ r. refl) (λ r. refl) rows u ∙ owned,
+      ap are_distinct now ∙ change_distinct (like new) (λ r. refl) (λ r. refl) rows u once,
+    )
 
 -- who is found to own a unit is a company
 pub found_company : (xs : List UnitRow) (u : ℕ) (r : UnitRow) → are_owned xs ≡ true → find xs u ≡ Some r → is_company r.owner ≡ true

@@ -1,5 +1,6 @@
 -- The units of a month, as a list of rows in the order in which they were registered.
 use Rattle.std.specs.Prelude.{ℕ, ◌+◌, ◌-◌, ◌*◌, Bool, true, false, cond, not, ◌&&◌, List, [], ◌∷◌, ◌++◌, length, replicate, is_some, Some, None, Option, ◌==◌, nat_le, slice_index_or, slice_set}
+use Rattle.std.specs.List.{list_all}
 use Rattle.std.specs.Prelude.{find as find_by}
 use Rattle.payers.specs.Bases.{is_company}
 use Rattle.worth.specs.declared.line.Line.{Line}
@@ -29,8 +30,7 @@ change f (r ∷ rs) unit = cond (r.number == unit) (f r ∷ rs) (r ∷ change f 
 
 -- What every table keeps: each owner is a company's number, and no unit's number stands twice.
 abbrev pub are_owned : List UnitRow → Bool
-are_owned [] = true
-are_owned (r ∷ rs) = is_company r.owner && are_owned rs
+are_owned rows = list_all (λ r. is_company r.owner) rows
 
 abbrev pub are_distinct : List UnitRow → Bool
 are_distinct [] = true

@@ -8,7 +8,8 @@ use arrayvec::ArrayVec;
 use payers::base::COMPANIES;
 use payers::weights::CompanyWeights;
 
-// The pots of services: 1 frequency, 2 voltage, 3 installations.
+// How many pots of services there are: 1 frequency, 2 voltage, 3 installations.
+// Kept: services come as numbers in every call, since a call takes any figures, and a type of their own would ask more of callers.
 pub const SERVICES: usize = 3;
 
 // How many pots of sheddings there are at most. They are numbered 4 to 19.

@@ -5,4 +5,6 @@
 pub mod accounts;
 pub mod marks;
 pub mod points;
+#[cfg(test)]
+mod tests;
 pub mod units;

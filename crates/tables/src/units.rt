@@ -10,10 +10,16 @@ use worth::Performance;
 // How many units a month has at most.
 pub const UNITS: usize = 48;
 
-// The families of service, the hours of the longest month times the kinds of line.
+// How many families of service there are: 1 frequency, 2 voltage.
+// Kept: families come as numbers in every call, since a call takes any figures, and a type of its own would ask more of callers.
 pub const FAMILIES: usize = 2;
 
-pub const LINES: usize = 5_960;
+// How many hours the longest month has, how many kinds of line an hour, and how many lines all of them together.
+const HOURS: usize = 745;
+
+const KINDS: usize = 8;
+
+pub const LINES: usize = HOURS * KINDS;
 
 // A unit, and what was posted of it so far.
 #[derive(Clone, Copy, Default)]
@@ -22,6 +28,7 @@ pub struct UnitRow {
     pub owner: u64,
     pub zone: u64,
     // by family
+    // Kept: two lists, since each is read and set alone, by entry_of and set_entry in a line.
     pub performances: [Option<Performance>; FAMILIES],
     pub installed: [bool; FAMILIES],
     // by hour and kind: eight kinds an hour

@@ -8,7 +8,7 @@ ghost use Rattle.tables.specs.Units.{fresh as fresh_row, find as row_of, place a
 ghost use Rattle.tables.specs.Tables.{listed};
 ghost use Rattle.tables.specs.Rows.{owner_company};
 
-use super::{FAMILIES, LINES, Place, UNITS, UnitRow, UnitTable};
+use super::{FAMILIES, HOURS, KINDS, LINES, Place, UnitRow, UnitTable};
 use arrayvec::ArrayVec;
 use numbered::{entry_of, is_numbered, set_entry};
 use payers::base::COMPANIES;
@@ -16,10 +16,11 @@ use payers::zone::Owners;
 use worth::{Line, Performance};
 
 // Where an hour's line of a kind stands in a row; None where no month has such an hour.
+// Kept: the hour and the line are two parameters here and below, since a caller has them apart, and would make a pair for the call alone.
 fn line_index(hour: u64, line: &Line) -> Option<usize>
     ensures { result ≡ (if nat_le 745 hour then None else Some (slot_of hour line.now)) }
 {
-    (hour < 745).then(|| hour as usize * 8 + line.kind() as usize - 1)
+    (hour < HOURS as u64).then(|| hour as usize * KINDS + line.kind() as usize - 1)
 }
 
 impl UnitRow {
@@ -103,8 +104,7 @@ impl UnitTable {
     pub fn place(&self, unit: u64) -> Option<Place>
         ensures { result ≡ place_of (row_of (listed self.now) unit) }
     {
-        let row = self.row(unit)?;
-        Some(Place {
+        self.row(unit).map(|row| Place {
             owner: row.owner,
             zone: row.zone,
         })

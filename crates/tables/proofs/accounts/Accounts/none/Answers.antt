@@ -1,4 +1,4 @@
-use Rattle.std.proofs.Common.{ℕ, length, ap, refl, ◌≤◌, arith, rules}
+use Rattle.std.proofs.Common.{ℕ, length, ap, refl, arith, rules}
 use Rattle.tables.proofs.Entries.{getD_all}
 use Rattle.tables.proofs.accounts.Accounts.none.Goals as goal
 

@@ -1,4 +1,4 @@
-use Rattle.std.proofs.Common.{◌≡◌, ap, subst}
+use Rattle.std.proofs.Common.{subst}
 use Rattle.std.specs.Slice.{IsItemAt}
 use Rattle.tables.proofs.Pots.{pot_found}
 use Rattle.tables.proofs.accounts.Accounts.shedding.Goals as goal
