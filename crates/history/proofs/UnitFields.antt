@@ -8,7 +8,8 @@ use Rattle.tables.specs.declared.units.Place.{Place}
 use Rattle.tables.specs.declared.units.UnitRow.{UnitRow}
 use Rattle.numbered.specs.Entries.{is_numbered, entry}
 use Rattle.tables.specs.Units.{fresh, find, change, place, performance, installed, slot, given, is_addable, added, with_performance, with_installation, with_line}
-use Rattle.tables.proofs.Added.{or_else, find_added, is_none}
+use Rattle.std.specs.Option.{option_or}
+use Rattle.tables.proofs.Added.{find_added, is_none}
 use Rattle.tables.proofs.Entries.{getD_all, entry_all, entry_with, with_entry_long}
 use Rattle.tables.specs.Rows.{find_change}
 use Rattle.worth.specs.declared.line.Line.{Line}
@@ -77,19 +78,19 @@ module _ (at : ℕ → Option Place) (many : ℕ) (perf : ℕ → ℕ → Option
       ungiven t l true = refl
       ungiven t l false = getD_all false 5_960 (slot t l)
 
-      placed : (u : ℕ) (t : Bool) (f : Option UnitRow) → eqb n u ≡ t → find us u ≡ f → find us n ≡ None → place (or_else f (cond t (Some (fresh n o z)) None)) ≡ either (when t (record { owner = o; zone = z })) (place f)
+      placed : (u : ℕ) (t : Bool) (f : Option UnitRow) → eqb n u ≡ t → find us u ≡ f → find us n ≡ None → place (option_or f (cond t (Some (fresh n o z)) None)) ≡ either (when t (record { owner = o; zone = z })) (place f)
       placed u true None e q absent = refl
       placed u true (Some r) e q absent = let w : ◌≡◌ {A = ℕ} 0 1 = cc (ap (find us) (eqb-true n u e)) in absurd (omega arith)
       placed u false None e q absent = refl
       placed u false (Some r) e q absent = refl
 
-      unread : {X : Type 0} (read : Option UnitRow → X) (t : Bool) (f : Option UnitRow) → read (Some (fresh n o z)) ≡ read None → read (or_else f (cond t (Some (fresh n o z)) None)) ≡ read f
+      unread : {X : Type 0} (read : Option UnitRow → X) (t : Bool) (f : Option UnitRow) → read (Some (fresh n o z)) ≡ read None → read (option_or f (cond t (Some (fresh n o z)) None)) ≡ read f
       unread read true None e = e
       unread read false None e = refl
       unread read true (Some r) e = refl
       unread read false (Some r) e = refl
 
-      widened : (u : ℕ) (r : UnitRow) (t : Bool) (f : Option UnitRow) → find us u ≡ f → or_else f (cond t (Some (fresh n o z)) None) ≡ Some r → Wide r
+      widened : (u : ℕ) (r : UnitRow) (t : Bool) (f : Option UnitRow) → find us u ≡ f → option_or f (cond t (Some (fresh n o z)) None) ≡ Some r → Wide r
       widened u r t (Some q) e there = let same : q ≡ r = cc in subst Wide same (k.wide u q e)
       widened u r true None e there =
           let same : fresh n o z ≡ r = cc in

@@ -29,13 +29,6 @@ shared_small pot ws = go (is_shared pot ws) refl
 pub charge_small : (pot : ℕ) (ws charges : List ℕ) → Charged pot ws charges → (k : ℕ) → get_or charges k 0 ≤ limit
 charge_small pot ws charges ok k = omega (arith, entry_sum charges k, ok.whole, shared_small pot ws)
 
--- the pots after the first three
-pub after_three : (a b c : Pot) (ps : List Pot) (k : ℕ) → 3 ≤ k → pot_at (a ∷ b ∷ c ∷ ps) k ≡ pot_at ps (k - 3)
-after_three a b c ps zero l = absurd (omega arith)
-after_three a b c ps (suc zero) l = absurd (omega arith)
-after_three a b c ps (suc (suc zero)) l = absurd (omega arith)
-after_three a b c ps (suc (suc (suc k))) l = ap (pot_at ps) (omega arith)
-
 -- what a company is charged over the rows of some pots
 abbrev pub of_row : ℕ → List ℕ → ℕ
 of_row company row = entry 32 0 row company
