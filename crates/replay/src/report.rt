@@ -99,6 +99,7 @@ pub fn charges(heap: Global, charges: &[[u64; 32]; 19]) -> Result<Vec<Charge>, A
     ensures { IfOk result (λ v. v.items ≡ charges_of 32 charges.now) }
 {
     let mut list = Vec::new(heap);
+    // Kept: an index stands for one company in the rows of all pots, and no iterator goes down the rows.
     for index in 0..32 {
         add_charges(&mut list, charges, index)?;
     }

@@ -18,12 +18,8 @@ use Rattle.script.specs.Lines.{said_of}
 use Rattle.script.specs.Texts.{front, numbers, written, Sound, SaysAll}
 use Rattle.script.specs.Held.{held}
 use Rattle.script.specs.Scripts.{whole_lines, lines_of, onto, on_line, calls_from, reading, Reads, Exact}
-use Rattle.script.proofs.Counts.{none_some}
 use Rattle.script.proofs.Only.{said_only}
 use Rattle.script.proofs.Back.{free, free_lacks, numbers_lack, said_back}
-
-err_ok : {X : Type 0} {e : Fault} {x : X} → ◌≡◌ {A = Result X Fault} (Err e) (Ok x) → ⊥
-err_ok h = let z : ◌≡◌ {A = ℕ} 0 1 = cc in omega arith
 
 ok_is : {x y : List (Meant BuiltIn)} → ◌≡◌ {A = Result (List (Meant BuiltIn)) Fault} (Ok x) (Ok y) → x ≡ y
 ok_is h = cc
@@ -34,7 +30,7 @@ Lines ls xs = (ls ≡ map written xs) × AllByRecursion Sound xs
 
 module _ (k : ℕ) (l : List ℕ) (ls : List (List ℕ)) (xs : List (Meant BuiltIn)) where
   onto_only : (x : Meant BuiltIn) (r : Result (List (Meant BuiltIn)) Fault) → said_of l ≡ Some x → ((ys : List (Meant BuiltIn)) → r ≡ Ok ys → Lines ls ys) → onto x r ≡ Ok xs → Lines (l ∷ ls) xs
-  onto_only x (Err e) s ih h = absurd (err_ok h)
+  onto_only x (Err e) s ih h = cc
   onto_only x (Ok ys) s ih h =
       let says = said_only l x s in
       let rest = ih ys refl in
@@ -44,7 +40,7 @@ module _ (k : ℕ) (l : List ℕ) (ls : List (List ℕ)) (xs : List (Meant Built
       )
 
   line_only : (o : Option (Meant BuiltIn)) → said_of l ≡ o → ((ys : List (Meant BuiltIn)) → calls_from (k + 1) ls ≡ Ok ys → Lines ls ys) → on_line k o (calls_from (k + 1) ls) ≡ Ok xs → Lines (l ∷ ls) xs
-  line_only None s ih h = absurd (err_ok h)
+  line_only None s ih h = cc
   line_only (Some x) s ih h = onto_only x (calls_from (k + 1) ls) s ih h
 
 calls_only : (k : ℕ) (ls : List (List ℕ)) (xs : List (Meant BuiltIn)) → calls_from k ls ≡ Ok xs → Lines ls xs
@@ -114,7 +110,7 @@ abbrev LineText : List ℕ → Type 0
 LineText l = LacksByte 10 l × (0 < length l)
 
 some_text : (l : List ℕ) (x : Meant BuiltIn) → said_of l ≡ Some x → 0 < length l
-some_text [] x h = absurd (none_some h)
+some_text [] x h = cc
 some_text (c ∷ l) x h = omega arith
 
 written_text : (x : Meant BuiltIn) → Sound x → LineText (written x)
@@ -174,5 +170,5 @@ reading_back bytes xs says =
 
 pub script_exact : (bytes : List ℕ) (r : Result Script Fault) → Reads bytes r → Exact bytes r
 script_exact bytes (Ok s) h = (reading_only bytes (held s) h, λ xs says. ok_is (sym (reading_back bytes xs says) ∙ h))
-script_exact bytes (Err (NoCall k)) h = λ xs says. err_ok (sym h ∙ reading_back bytes xs says)
+script_exact bytes (Err (NoCall k)) h = λ xs says. let same = sym h ∙ reading_back bytes xs says in cc
 script_exact bytes (Err Memory) h = tt

@@ -19,11 +19,11 @@ use Rattle.script.specs.declared.word.Word.TheVariants as word
 use Rattle.script.specs.Words.{name, among, words, word_of}
 use Rattle.script.specs.Lines.{and_then, numbers_of, low_kind, high_kind, or_else, line_of, lined, shed_of, call_of, pairs, settled, on_word, by_word, said_by, said_of}
 use Rattle.script.specs.Texts.{front, figures, flat, numbers, written, Says}
-use Rattle.script.proofs.Counts.{none_some, some_is, none_by, one_by, two_by, three_by, four_by, five_by, cond_by}
+use Rattle.script.proofs.Counts.{some_is, none_by, one_by, two_by, three_by, four_by, five_by, cond_by}
 
 -- a word
 pub among_only : (ws : List Word) (f : List ℕ) (w : Word) → among ws f ≡ Some w → f ≡ name w
-among_only [] f w e = absurd (none_some e)
+among_only [] f w e = cc
 among_only (v ∷ ws) f w e =
     cond_by (bytes_eq f (name v)) (Some v) (among ws f) w (f ≡ name w)
     (λ t s. (bytes_eq-Decides f (name v)).0 t ∙ ap name (some_is s))
@@ -36,7 +36,7 @@ Small n = n < 10 ^ 11
 
 module _ (f : List ℕ) (fs : List (List ℕ)) where
   onto_only : (n : ℕ) (o : Option (List ℕ)) (ns : List ℕ) → number_of f ≡ Some n → ((ms : List ℕ) → o ≡ Some ms → (fs ≡ map decimal ms) × AllByRecursion Small ms) → option_map (λ ms. n ∷ ms) o ≡ Some ns → (f ∷ fs ≡ map decimal ns) × AllByRecursion Small ns
-  onto_only n None ns e ih h = absurd (none_some h)
+  onto_only n None ns e ih h = cc
   onto_only n (Some ms) ns e ih h =
       let first = number_only f n e in
       let rest = ih ms refl in
@@ -44,7 +44,7 @@ module _ (f : List ℕ) (fs : List (List ℕ)) where
       subst P (some_is h) (ap (λ g. g ∷ fs) first.0 ∙ ap (λ gs. decimal n ∷ gs) rest.0, (first.1, rest.1))
 
   field_only : (o : Option ℕ) (ns : List ℕ) → number_of f ≡ o → ((ms : List ℕ) → numbers_of fs ≡ Some ms → (fs ≡ map decimal ms) × AllByRecursion Small ms) → and_then o (λ n. option_map (λ ms. n ∷ ms) (numbers_of fs)) ≡ Some ns → (f ∷ fs ≡ map decimal ns) × AllByRecursion Small ns
-  field_only None ns e ih h = absurd (none_some h)
+  field_only None ns e ih h = cc
   field_only (Some n) ns e ih h = onto_only n (numbers_of fs) ns e ih h
 
 pub numbers_only : (fs : List (List ℕ)) (ns : List ℕ) → numbers_of fs ≡ Some ns → (fs ≡ map decimal ns) × AllByRecursion Small ns
@@ -62,7 +62,7 @@ low_only k fs l =
     (cond_by (eqb k 2) _ _ l (Kind k fs l) (λ t. two_by UpwardActivation Q (λ a b. (eqb-true k 2 t, refl)) fs l)
     (cond_by (eqb k 3) _ _ l (Kind k fs l) (λ t. three_by Downward Q (λ a b c. (eqb-true k 3 t, refl)) fs l)
     (cond_by (eqb k 4) _ _ l (Kind k fs l) (λ t. three_by OverCost Q (λ a b c. (eqb-true k 4 t, refl)) fs l)
-    (λ h. absurd (none_some h)))))
+    (λ h. cc))))
 
 high_only : (k : ℕ) (fs : List ℕ) (l : hourly.Line) → high_kind k fs ≡ Some l → Kind k fs l
 high_only k fs l =
@@ -71,7 +71,7 @@ high_only k fs l =
     (cond_by (eqb k 6) _ _ l (Kind k fs l) (λ t. four_by ExtraFuel Q (λ a b c d. (eqb-true k 6 t, refl)) fs l)
     (cond_by (eqb k 7) _ _ l (Kind k fs l) (λ t. four_by ExtraResource Q (λ a b c d. (eqb-true k 7 t, refl)) fs l)
     (cond_by (eqb k 8) _ _ l (Kind k fs l) (λ t. three_by ExtraWithdrawal Q (λ a b c. (eqb-true k 8 t, refl)) fs l)
-    (λ h. absurd (none_some h)))))
+    (λ h. cc))))
 
 line_only : (k : ℕ) (fs : List ℕ) (l : hourly.Line) → line_of k fs ≡ Some l → Kind k fs l
 line_only k fs l = by (low_kind k fs) refl
@@ -86,17 +86,17 @@ pub record Fits (w : Word) (ns : List ℕ) (x : Meant BuiltIn) : Type 0 where
   pub rest : ns ≡ numbers x
 
 lined_fits : (u h k f : ℕ) (fs : List ℕ) (o : Option hourly.Line) (x : Meant BuiltIn) → line_of k fs ≡ o → option_map (λ l. post (line u h f l)) o ≡ Some x → Fits word.Line (u ∷ h ∷ k ∷ f ∷ fs) x
-lined_fits u h k f fs None x e m = absurd (none_some m)
+lined_fits u h k f fs None x e m = cc
 lined_fits u h k f fs (Some l) x e m =
     let p = line_only k fs l e in
     subst (Fits word.Line (u ∷ h ∷ k ∷ f ∷ fs)) (some_is m)
     (record { first = refl; rest = ap (λ n. u ∷ h ∷ n ∷ f ∷ fs) p.0 ∙ ap (λ gs. u ∷ h ∷ kind l ∷ f ∷ gs) p.1 })
 
 line_fits : (ns : List ℕ) (x : Meant BuiltIn) → lined ns ≡ Some x → Fits word.Line ns x
-line_fits [] x e = absurd (none_some e)
-line_fits (u ∷ []) x e = absurd (none_some e)
-line_fits (u ∷ h ∷ []) x e = absurd (none_some e)
-line_fits (u ∷ h ∷ k ∷ []) x e = absurd (none_some e)
+line_fits [] x e = cc
+line_fits (u ∷ []) x e = cc
+line_fits (u ∷ h ∷ []) x e = cc
+line_fits (u ∷ h ∷ k ∷ []) x e = cc
 line_fits (u ∷ h ∷ k ∷ f ∷ fs) x e = lined_fits u h k f fs (line_of k fs) x refl e
 
 -- a shedding
@@ -109,7 +109,7 @@ flat_pairs (u ∷ k ∷ ns) (suc n) e =
     (ap (λ ms. u ∷ k ∷ ms) r.0, omega (arith, r.1))
 
 shed_fits_by : (p k c z n : ℕ) (ns : List ℕ) (b : Bool) (x : Meant BuiltIn) → eqb (length ns % 2) 0 && eqb (length ns / 2) n ≡ b → cond b (Some (post (shed p k c z (pairs ns)))) None ≡ Some x → Fits word.Shed (p ∷ k ∷ c ∷ z ∷ n ∷ ns) x
-shed_fits_by p k c z n ns false x e m = absurd (none_some m)
+shed_fits_by p k c z n ns false x e m = cc
 shed_fits_by p k c z n ns true x e m =
     let even : length ns ≡ n + n = grind (arith, nat_tests) in
     let r = flat_pairs ns n even in
@@ -117,11 +117,11 @@ shed_fits_by p k c z n ns true x e m =
     (record { first = refl; rest = ap (λ ms. p ∷ k ∷ c ∷ z ∷ n ∷ ms) r.0 ∙ ap (λ m. p ∷ k ∷ c ∷ z ∷ m ∷ flat (pairs ns)) (sym r.1) })
 
 shed_fits : (ns : List ℕ) (x : Meant BuiltIn) → shed_of ns ≡ Some x → Fits word.Shed ns x
-shed_fits [] x e = absurd (none_some e)
-shed_fits (p ∷ []) x e = absurd (none_some e)
-shed_fits (p ∷ k ∷ []) x e = absurd (none_some e)
-shed_fits (p ∷ k ∷ c ∷ []) x e = absurd (none_some e)
-shed_fits (p ∷ k ∷ c ∷ z ∷ []) x e = absurd (none_some e)
+shed_fits [] x e = cc
+shed_fits (p ∷ []) x e = cc
+shed_fits (p ∷ k ∷ []) x e = cc
+shed_fits (p ∷ k ∷ c ∷ []) x e = cc
+shed_fits (p ∷ k ∷ c ∷ z ∷ []) x e = cc
 shed_fits (p ∷ k ∷ c ∷ z ∷ n ∷ ns) x e = shed_fits_by p k c z n ns (eqb (length ns % 2) 0 && eqb (length ns / 2) n) x refl e
 
 abbrev fits : {w : Word} {ns : List ℕ} {x : Meant BuiltIn} → name w ∷ [] ≡ front x → ns ≡ numbers x → Fits w ns x
@@ -144,7 +144,7 @@ call_fits word.Confirm ns x e = none_by _ (λ y ms. Fits word.Confirm ms y) (fit
 -- a whole line
 module _ (text : List ℕ) (x : Meant BuiltIn) where
   numbers_says : (f : List ℕ) (fs : List (List ℕ)) (w : Word) (o : Option (List ℕ)) → split 32 text ≡ f ∷ fs → f ≡ name w → numbers_of fs ≡ o → and_then o (call_of w) ≡ Some x → Says text x
-  numbers_says f fs w None e i n h = absurd (none_some h)
+  numbers_says f fs w None e i n h = cc
   numbers_says f fs w (Some ns) e i n h =
       let only = numbers_only fs ns n in
       let p = call_fits w ns x h in
@@ -154,7 +154,7 @@ module _ (text : List ℕ) (x : Meant BuiltIn) where
       }
 
   word_says : (f : List ℕ) (fs : List (List ℕ)) (o : Option Word) → split 32 text ≡ f ∷ fs → word_of f ≡ o → on_word o fs ≡ Some x → Says text x
-  word_says f fs None e i h = absurd (none_some h)
+  word_says f fs None e i h = cc
   word_says f fs (Some w) e i h = numbers_says f fs w (numbers_of fs) e (among_only words f w i) refl h
 
   by_word_says : by_word (split 32 text) ≡ Some x → Says text x
@@ -174,7 +174,7 @@ module _ (text : List ℕ) (x : Meant BuiltIn) where
       (λ t i. settle_says rule ((bytes_eq-Decides text (codes "settle running")).0 t ∙ ap (λ r. written (stage (Settle r))) (some_is i)) h)
       (cond_by (bytes_eq text (codes "settle largest")) _ _ rule (Says text x)
       (λ t i. settle_says rule ((bytes_eq-Decides text (codes "settle largest")).0 t ∙ ap (λ r. written (stage (Settle r))) (some_is i)) h)
-      (λ i. absurd (none_some i)))
+      (λ i. cc))
       e
 
   pub said_only : said_of text ≡ Some x → Says text x

@@ -46,6 +46,7 @@ fn low_kind(kind: u64, figures: &[u64]) -> Option<Line>
 }
 
 // The line of a kind of 5 to 8 with these figures, if the kind has so many.
+// Kept: one match over the eight kinds is a function of 49 lines.
 fn high_kind(kind: u64, figures: &[u64]) -> Option<Line>
     ensures { result ≡ high_kind kind figures.now }
 {

@@ -46,5 +46,6 @@ pub fn lines_of_calls(bytes: &[u8]) -> &[u8]
         return bytes;
     }
     let text = without_end(bytes);
+    // each of the two lines has 16 bytes
     &text[0..text.len() - 16]
 }

@@ -1,5 +1,5 @@
 -- The theorem on lines, at what the rule or the fields gave.
-use Rattle.std.proofs.Common.{Some, sym, ap, ◌∙◌}
+use Rattle.std.proofs.Common.{sym, ap, ◌∙◌}
 use Rattle.std.proofs.lemmas.Result.{IfOk-weaker}
 use Rattle.script.specs.Lines.{said_by}
 use Rattle.script.proofs.Back.{exactly_said}

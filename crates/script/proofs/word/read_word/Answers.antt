@@ -1,5 +1,5 @@
 -- Where a word was read byte by byte, the field is that word.
-use Rattle.std.proofs.Common.{◌≡◌, codes, sym, ap, arith, rules}
+use Rattle.std.proofs.Common.{codes, sym, ap, arith, rules}
 use Rattle.std.proofs.lemmas.Slice.Eq.{text_from_reads}
 use Rattle.script.specs.Words.{word_of}
 use Rattle.script.proofs.word.read_word.Goals as goal
