@@ -22,7 +22,7 @@ use Rattle.script.specs.Texts.{front, figures, flat, numbers, written, Says}
 use Rattle.script.proofs.Counts.{some_is, none_by, one_by, two_by, three_by, four_by, five_by, cond_by}
 
 -- a word
-pub among_only : (ws : List Word) (f : List ℕ) (w : Word) → among ws f ≡ Some w → f ≡ name w
+among_only : (ws : List Word) (f : List ℕ) (w : Word) → among ws f ≡ Some w → f ≡ name w
 among_only [] f w e = cc
 among_only (v ∷ ws) f w e =
     cond_by (bytes_eq f (name v)) (Some v) (among ws f) w (f ≡ name w)
@@ -47,7 +47,7 @@ module _ (f : List ℕ) (fs : List (List ℕ)) where
   field_only None ns e ih h = cc
   field_only (Some n) ns e ih h = onto_only n (numbers_of fs) ns e ih h
 
-pub numbers_only : (fs : List (List ℕ)) (ns : List ℕ) → numbers_of fs ≡ Some ns → (fs ≡ map decimal ns) × AllByRecursion Small ns
+numbers_only : (fs : List (List ℕ)) (ns : List ℕ) → numbers_of fs ≡ Some ns → (fs ≡ map decimal ns) × AllByRecursion Small ns
 numbers_only [] ns h = let P : List ℕ → Type 0 = λ l. ([] ≡ map decimal l) × AllByRecursion Small l in subst P (some_is h) (refl, tt)
 numbers_only (f ∷ fs) ns h = field_only f fs (number_of f) ns refl (λ ms. numbers_only fs ms) h
 
@@ -81,9 +81,9 @@ line_only k fs l = by (low_kind k fs) refl
     by None e h = high_only k fs l h
 
 -- the word and the numbers are those of the call
-pub record Fits (w : Word) (ns : List ℕ) (x : Meant BuiltIn) : Type 0 where
-  pub first : name w ∷ [] ≡ front x
-  pub rest : ns ≡ numbers x
+record Fits (w : Word) (ns : List ℕ) (x : Meant BuiltIn) : Type 0 where
+  first : name w ∷ [] ≡ front x
+  rest : ns ≡ numbers x
 
 lined_fits : (u h k f : ℕ) (fs : List ℕ) (o : Option hourly.Line) (x : Meant BuiltIn) → line_of k fs ≡ o → option_map (λ l. post (line u h f l)) o ≡ Some x → Fits word.Line (u ∷ h ∷ k ∷ f ∷ fs) x
 lined_fits u h k f fs None x e m = cc
@@ -100,7 +100,7 @@ line_fits (u ∷ h ∷ k ∷ []) x e = cc
 line_fits (u ∷ h ∷ k ∷ f ∷ fs) x e = lined_fits u h k f fs (line_of k fs) x refl e
 
 -- a shedding
-pub flat_pairs : (ns : List ℕ) (n : ℕ) → length ns ≡ n + n → (ns ≡ flat (pairs ns)) × (length (pairs ns) ≡ n)
+flat_pairs : (ns : List ℕ) (n : ℕ) → length ns ≡ n + n → (ns ≡ flat (pairs ns)) × (length (pairs ns) ≡ n)
 flat_pairs [] n e = (refl, omega arith)
 flat_pairs (u ∷ []) n e = absurd (omega arith)
 flat_pairs (u ∷ k ∷ ns) zero e = absurd (omega arith)
@@ -127,7 +127,7 @@ shed_fits (p ∷ k ∷ c ∷ z ∷ n ∷ ns) x e = shed_fits_by p k c z n ns (eq
 abbrev fits : {w : Word} {ns : List ℕ} {x : Meant BuiltIn} → name w ∷ [] ≡ front x → ns ≡ numbers x → Fits w ns x
 fits a b = record { first = a; rest = b }
 
-pub call_fits : (w : Word) (ns : List ℕ) (x : Meant BuiltIn) → call_of w ns ≡ Some x → Fits w ns x
+call_fits : (w : Word) (ns : List ℕ) (x : Meant BuiltIn) → call_of w ns ≡ Some x → Fits w ns x
 call_fits word.Open ns x e = five_by _ (λ y ms. Fits word.Open ms y) (λ a b c d f. fits refl refl) ns x e
 call_fits word.Company ns x e = one_by _ (λ y ms. Fits word.Company ms y) (λ a. fits refl refl) ns x e
 call_fits word.Replace ns x e = two_by _ (λ y ms. Fits word.Replace ms y) (λ a b. fits refl refl) ns x e

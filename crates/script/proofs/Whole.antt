@@ -16,16 +16,12 @@ abbrev pub after : List (Meant BuiltIn) → Result (List (Meant BuiltIn)) Fault 
 after done (Ok xs) = Ok (done ++ xs)
 after done (Err e) = Err e
 
-pub after_none : (r : Result (List (Meant BuiltIn)) Fault) → r ≡ after [] r
-after_none (Ok xs) = refl
-after_none (Err e) = refl
-
 after_one : (done : List (Meant BuiltIn)) (x : Meant BuiltIn) (r : Result (List (Meant BuiltIn)) Fault) → after done (onto x r) ≡ after (done ++ x ∷ []) r
 after_one done x (Ok xs) = ap (λ l. Ok l) (sym (append_assoc done (x ∷ []) xs))
 after_one done x (Err e) = refl
 
 -- a line that is a call, and one that is none
-pub line_good : (done : List (Meant BuiltIn)) (k : ℕ) (l : List ℕ) (ls : List (List ℕ)) (x : Meant BuiltIn) → said_of l ≡ Some x → after done (calls_from k (l ∷ ls)) ≡ after (done ++ x ∷ []) (calls_from (k + 1) ls)
+line_good : (done : List (Meant BuiltIn)) (k : ℕ) (l : List ℕ) (ls : List (List ℕ)) (x : Meant BuiltIn) → said_of l ≡ Some x → after done (calls_from k (l ∷ ls)) ≡ after (done ++ x ∷ []) (calls_from (k + 1) ls)
 line_good done k l ls x e = ap (λ o. after done (on_line k o (calls_from (k + 1) ls))) e ∙ after_one done x (calls_from (k + 1) ls)
 
 pub line_bad : (done : List (Meant BuiltIn)) (k : ℕ) (l : List ℕ) (ls : List (List ℕ)) → said_of l ≡ None → after done (calls_from k (l ∷ ls)) ≡ Err (NoCall k)

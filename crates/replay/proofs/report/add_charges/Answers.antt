@@ -1,11 +1,10 @@
 -- The chain goes over the pots in order.
-use Rattle.std.proofs.Common.{◌≡◌, ◌+◌, ◌++◌, length, map, vec_items, refl, ap, ◌∙◌, rules, tests}
+use Rattle.std.proofs.Common.{◌≡◌, ◌++◌, length, map, vec_items, refl, ap, ◌∙◌, rules, tests}
 use Rattle.std.specs.List.{zip, range_with_len, filter}
 use Rattle.std.proofs.lemmas.Iterator.{YieldsList-from_slice, YieldsList-from_range, YieldsList-from_zip, YieldsList-from_map}
 use Rattle.std.proofs.lemmas.Iterator.Adapters.{items_from_extend}
 use Rattle.std.proofs.lemmas.Iterator.Consumers.{YieldsList-from_filter, YieldsList-at}
 use Rattle.std.proofs.lemmas.Result.{on_ok_weaker}
-use Rattle.replay.specs.Reports.{charges_from, column}
 use Rattle.replay.proofs.Steps.{charge, is_above, charges_made}
 use Rattle.replay.proofs.report.add_charges.Goals as goal
 
