@@ -125,7 +125,7 @@ said_back (stage Confirm) all = line_of_word word.Confirm (stage Confirm) all re
 
 -- a line is read as what it writes, and as nothing else
 pub exactly : (text : List ℕ) → Exactly text (said_of text)
-exactly text x = (λ h. said_only text x h, λ says. ap said_of says.same ∙ said_back x says.small)
+exactly text x = (λ h. said_only text x h, λ says. ap said_of says.text ∙ said_back x says.small)
 
 pub exactly_said : (text : List ℕ) (m : Option (Meant BuiltIn)) → m ≡ said_of text → Exactly text m
 exactly_said text m e = subst (Exactly text) (sym e) (exactly text)

@@ -35,8 +35,8 @@ module _ (k : ℕ) (l : List ℕ) (ls : List (List ℕ)) (xs : List (Meant Built
       let says = said_only l x s in
       let rest = ih ys refl in
       subst (Lines (l ∷ ls)) (ok_is h) (
-        ap (λ m. m ∷ ls) says.same ∙ ap (λ ms. written x ∷ ms) rest.0,
-        (record { same = refl; small = says.small }, rest.1),
+        ap (λ m. m ∷ ls) says.text ∙ ap (λ ms. written x ∷ ms) rest.0,
+        (record { text = refl; small = says.small }, rest.1),
       )
 
   line_only : (o : Option (Meant BuiltIn)) → said_of l ≡ o → ((ys : List (Meant BuiltIn)) → calls_from (k + 1) ls ≡ Ok ys → Lines ls ys) → on_line k o (calls_from (k + 1) ls) ≡ Ok xs → Lines (l ∷ ls) xs

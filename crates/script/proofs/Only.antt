@@ -149,7 +149,7 @@ module _ (text : List ℕ) (x : Meant BuiltIn) where
       let only = numbers_only fs ns n in
       let p = call_fits w ns x h in
       record {
-        same = sym (rejoined_split 32 text) ∙ ap (join_with_byte 32) (e ∙ ap (λ g. g ∷ fs) i ∙ ap (λ gs. name w ∷ gs) only.0 ∙ ap (λ ms. name w ∷ map decimal ms) p.rest ∙ ap (λ gs. gs ++ map decimal (numbers x)) p.first);
+        text = sym (rejoined_split 32 text) ∙ ap (join_with_byte 32) (e ∙ ap (λ g. g ∷ fs) i ∙ ap (λ gs. name w ∷ gs) only.0 ∙ ap (λ ms. name w ∷ map decimal ms) p.rest ∙ ap (λ gs. gs ++ map decimal (numbers x)) p.first);
         small = subst (AllByRecursion Small) p.rest only.1;
       }
 
@@ -165,7 +165,7 @@ module _ (text : List ℕ) (x : Meant BuiltIn) where
   settle_says : (rule : BuiltIn) → text ≡ written (stage (Settle rule)) → ◌≡◌ {A = Option (Meant BuiltIn)} (Some (stage (Settle rule))) (Some x) → Says text x
   settle_says rule t h =
       let P : Meant BuiltIn → Type 0 = λ y. Says text y in
-      subst P (some_is h) (record { same = t; small = tt })
+      subst P (some_is h) (record { text = t; small = tt })
 
   settled_says : (o : Option BuiltIn) → settled text ≡ o → said_by o text ≡ Some x → Says text x
   settled_says None e h = by_word_says h

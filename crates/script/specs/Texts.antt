@@ -64,13 +64,13 @@ abbrev pub written : Meant BuiltIn → List ℕ
 written x = join_with_byte 32 (front x ++ map decimal (numbers x))
 
 -- a line writes this call, whose numbers have at most eleven digits
-pub record Says (text : List ℕ) (x : Meant BuiltIn) : Type 0 where
-  pub same : text ≡ written x
+pub record Says (bytes : List ℕ) (x : Meant BuiltIn) : Type 0 where
+  pub text : bytes ≡ written x
   pub small : AllByRecursion (λ n. n < 10 ^ 11) (numbers x)
 
 -- m answers with a call just where the line writes it
 abbrev pub Exactly : List ℕ → Option (Meant BuiltIn) → Type 0
-Exactly text m = (x : Meant BuiltIn) → (m ≡ Some x → Says text x) × (Says text x → m ≡ Some x)
+Exactly bytes m = (x : Meant BuiltIn) → (m ≡ Some x → Says bytes x) × (Says bytes x → m ≡ Some x)
 
 -- a call that can be written
 abbrev pub Sound : Meant BuiltIn → Type 0
