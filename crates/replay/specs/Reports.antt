@@ -1,10 +1,11 @@
 -- What is printed of an outcome.
-use Rattle.std.specs.Prelude.{ℕ, zero, suc, ◌+◌, cond, List, [], ◌∷◌, ◌++◌, map, Some, None, Option, nat_lt, slice_index}
+use Rattle.std.specs.Prelude.{ℕ, zero, suc, ◌+◌, cond, List, [], ◌∷◌, ◌++◌, map, Some, None, Option, nat_lt, slice_index, codes, decimal}
+use Rattle.std.specs.Fmt.{signed_decimal}
 use Rattle.month.specs.declared.figures.Figures.{Figures}
-use Rattle.month.specs.declared.refusal.Refusal.{Refusal}
-use Rattle.month.specs.declared.refusal.Refusal.TheVariants.{Stage, Limits, Unregistered, Again, Full, Barred, NoPerformance, Credits, NoWeight, Short}
+use Rattle.month.specs.Refusals.{number}
 use Rattle.replay.specs.declared.report.Net.{Net}
 use Rattle.replay.specs.declared.report.Charge.{Charge}
+use Rattle.replay.specs.declared.report.Refused.{Refused}
 
 -- the figures of a company, if it is registered
 abbrev pub net_of : ℕ → Option Figures → List Net
@@ -34,15 +35,12 @@ unfoldable pub charges_of : ℕ → List (List ℕ) → List Charge
 charges_of zero pots = []
 charges_of (suc n) pots = charges_of n pots ++ charges_from (n + 1) 1 (column n pots)
 
--- the number of a refusal
-abbrev pub number_of : Refusal → ℕ
-number_of Stage = 1
-number_of Limits = 2
-number_of Unregistered = 3
-number_of Again = 4
-number_of Full = 5
-number_of Barred = 6
-number_of NoPerformance = 7
-number_of Credits = 8
-number_of NoWeight = 9
-number_of Short = 10
+-- the line of a company's figures, of a charge, and of a refusal
+abbrev pub net_text : Net → List ℕ
+net_text net = decimal net.company ++ 32 ∷ (decimal net.figures.credit ++ 32 ∷ (decimal net.figures.charge ++ 32 ∷ signed_decimal net.figures.net))
+
+abbrev pub charge_text : Charge → List ℕ
+charge_text charge = decimal charge.company ++ 32 ∷ (decimal charge.pot ++ 32 ∷ decimal charge.cents)
+
+abbrev pub refused_text : Refused → List ℕ
+refused_text refused = codes "refused " ++ decimal (number refused.0)

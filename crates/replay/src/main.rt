@@ -10,54 +10,29 @@ use clearing::payments::ENTRIES;
 use history::replay::replay;
 use month::figures::Outcome;
 use prorating::running::Running;
-use report::{Charge, Net, charges, nets, refusal_number};
+use report::{Refused, charges, nets};
 use script::Fault;
 use std::alloc::AllocError;
+use std::fmt::Display;
+use std::io;
 use std::io::Read;
 use std::process::ExitCode;
-use std::{fmt, io};
+use thiserror::Error;
 
 // The longest script that is read, in bytes.
 const LONGEST: usize = 4_194_304;
 
 // Why nothing is printed.
-#[derive(Drop)]
+#[derive(Debug, Drop, Error)]
 enum Failure {
-    Io(io::Error),
+    #[error("the script cannot be read, or the answers cannot be written")]
+    Io(#[from] io::Error),
+    #[error("the script is longer than {longest} bytes", longest = LONGEST)]
     TooLong,
-    Script(Fault),
-}
-
-impl From<io::Error> for Failure {
-    fn from(e: io::Error) -> Failure {
-        Failure::Io(e)
-    }
-}
-
-impl From<Fault> for Failure {
-    fn from(e: Fault) -> Failure {
-        Failure::Script(e)
-    }
-}
-
-impl From<AllocError> for Failure {
-    fn from(_e: AllocError) -> Failure {
-        Failure::Script(Fault::Memory)
-    }
-}
-
-impl fmt::Display for Failure {
-    fn fmt<W: fmt::Write>(&self, f: &mut fmt::Formatter<W>) -> fmt::Result {
-        match self {
-            Failure::Io(_) => write!(
-                f,
-                "the script cannot be read, or the answers cannot be written"
-            ),
-            Failure::TooLong => write!(f, "the script is longer than {LONGEST} bytes"),
-            Failure::Script(Fault::Memory) => write!(f, "there is not enough memory"),
-            Failure::Script(Fault::NoCall(line)) => write!(f, "line {line} is no call"),
-        }
-    }
+    #[error("{0}")]
+    Script(#[from] Fault),
+    #[error("there is not enough memory")]
+    Memory(#[from(alloc)] AllocError),
 }
 
 fn input(rt: &HostRuntime) -> Result<Vec<u8>, Failure> {
@@ -74,60 +49,41 @@ fn input(rt: &HostRuntime) -> Result<Vec<u8>, Failure> {
 fn print_answers(rt: &HostRuntime, answers: &[u8]) -> io::Result<()> {
     let count = answers.len();
     println!(rt; "answers {count}")?;
-    for (k, answer) in answers.iter().enumerate() {
-        let number = k + 1;
+    for (number, answer) in (1..=count).zip(answers) {
         println!(rt; "{number} {answer}")?;
     }
     Ok(())
 }
 
-fn print_nets(rt: &HostRuntime, nets: &[Net]) -> io::Result<()> {
-    let count = nets.len();
-    println!(rt; "nets {count}")?;
-    for net in nets {
-        let company = net.company;
-        let credit = net.figures.credit;
-        let charge = net.figures.charge;
-        let net = net.figures.net;
-        println!(rt; "{company} {credit} {charge} {net}")?;
-    }
-    Ok(())
-}
-
-fn print_charges(rt: &HostRuntime, charges: &[Charge]) -> io::Result<()> {
-    let count = charges.len();
-    println!(rt; "charges {count}")?;
-    for charge in charges {
-        let company = charge.company;
-        let pot = charge.pot;
-        let cents = charge.cents;
-        println!(rt; "{company} {pot} {cents}")?;
+// A title with the count of the lines, and the lines.
+fn print_lines<T: Display>(rt: &HostRuntime, title: &str, lines: &[T]) -> io::Result<()> {
+    let count = lines.len();
+    println!(rt; "{title} {count}")?;
+    for line in lines {
+        println!(rt; "{line}")?;
     }
     Ok(())
 }
 
 fn print_outcome(rt: &HostRuntime, outcome: &Outcome) -> Result<(), Failure> {
-    print_nets(rt, &nets(rt.alloc(), &outcome.figures)?)?;
-    print_charges(rt, &charges(rt.alloc(), &outcome.charges)?)?;
+    print_lines(rt, "nets", &nets(rt.alloc(), &outcome.figures)?)?;
+    print_lines(rt, "charges", &charges(rt.alloc(), &outcome.charges)?)?;
     Ok(())
 }
 
 fn run(rt: &HostRuntime) -> Result<(), Failure> {
     let bytes = input(rt)?;
     let script = script::read(rt.alloc(), &bytes)?;
-    let calls = script.calls(rt.alloc())?;
+    let calls = script.calls();
     let mut answers = vec![in rt.alloc(); 0; calls.len()]?;
     let mut table = vec![in rt.alloc(); 0; ENTRIES]?;
-    let outcome = replay(&calls, &mut answers, &Running, &mut table);
+    let outcome = replay(calls, &mut answers, &Running, &mut table);
     print_answers(rt, &answers)?;
     match outcome {
-        Ok(outcome) => print_outcome(rt, &outcome),
-        Err(refusal) => {
-            let number = refusal_number(&refusal);
-            println!(rt; "refused {number}")?;
-            Ok(())
-        }
+        Ok(outcome) => print_outcome(rt, &outcome)?,
+        Err(refusal) => println!(rt; "{}", Refused(refusal))?,
     }
+    Ok(())
 }
 
 fn main(rt: HostRuntime) -> io::Result<ExitCode> {

@@ -1,16 +1,31 @@
-// What is printed of an outcome: the figures of the registered companies, and the charges above 0.
-ghost use Rattle.std.specs.Prelude.{◌≡◌, ◌+◌, ◌<◌, ◌++◌, IfOk, OnOk};
-ghost use Rattle.replay.specs.Reports.{net_of, nets_from, if_above, column, charges_from, charges_of, number_of};
+// What is printed of an outcome: the figures of the registered companies, and the charges above 0; and of a refusal.
+ghost use Rattle.std.specs.Prelude.{◌≡◌, ◌+◌, ◌<◌, ◌++◌, Some, IfOk, OnOk};
+ghost use Rattle.replay.specs.Reports.{nets_from, column, charges_from, charges_of, net_text, charge_text, refused_text};
 
 use month::figures::Figures;
 use month::refusal::Refusal;
 use std::alloc::{AllocError, Global};
+use std::fmt;
 
 // The figures of a registered company.
 #[derive(Clone, Copy)]
 pub struct Net {
     pub company: u64,
     pub figures: Figures,
+}
+
+impl fmt::Display for Net {
+    ghost output = { λ net. Some (net_text net) };
+
+    fn fmt<W: fmt::Write>(&self, f: &mut fmt::Formatter<W>) -> fmt::Result {
+        let Net { company, figures } = self;
+        let Figures {
+            credit,
+            charge,
+            net,
+        } = figures;
+        write!(f, "{company} {credit} {charge} {net}")
+    }
 }
 
 // What a company is charged for a pot.
@@ -21,35 +36,40 @@ pub struct Charge {
     pub cents: u64,
 }
 
-// Adds the figures of a company, if it is registered.
-fn add_net(list: &mut Vec<Net>, company: u64, figures: Option<Figures>) -> Result<(), AllocError>
-    ensures { OnOk result (list.new.items ≡ list.old.items ++ net_of company figures) }
-{
-    if let Some(figures) = figures {
-        list.push(Net { company, figures })?;
+impl fmt::Display for Charge {
+    ghost output = { λ charge. Some (charge_text charge) };
+
+    fn fmt<W: fmt::Write>(&self, f: &mut fmt::Formatter<W>) -> fmt::Result {
+        let Charge {
+            company,
+            pot,
+            cents,
+        } = self;
+        write!(f, "{company} {pot} {cents}")
     }
-    Ok(())
+}
+
+// What is printed where there is no outcome.
+#[derive(Clone, Copy)]
+pub struct Refused(pub Refusal);
+
+impl fmt::Display for Refused {
+    ghost output = { λ refused. Some (refused_text refused) };
+
+    fn fmt<W: fmt::Write>(&self, f: &mut fmt::Formatter<W>) -> fmt::Result {
+        let number = self.0.number();
+        write!(f, "refused {number}")
+    }
 }
 
 // The figures of the registered companies, in rising order.
 pub fn nets(heap: Global, figures: &[Option<Figures>; 32]) -> Result<Vec<Net>, AllocError>
     ensures { IfOk result (λ v. v.items ≡ nets_from 1 figures.now) }
 {
-    let mut list = Vec::new(heap);
-    for (k, one) in figures.iter().enumerate() {
-        add_net(&mut list, k as u64 + 1, *one)?;
-    }
-    Ok(list)
-}
-
-// Adds a charge, if it is above 0.
-fn add_charge(list: &mut Vec<Charge>, charge: Charge) -> Result<(), AllocError>
-    ensures { OnOk result (list.new.items ≡ list.old.items ++ if_above charge) }
-{
-    if charge.cents > 0 {
-        list.push(charge)?;
-    }
-    Ok(())
+    (1..33)
+        .zip(figures)
+        .filter_map(|(company, figures)| figures.map(|figures| Net { company, figures }))
+        .collect(heap)
 }
 
 // Adds the charges above 0 of the company at an index, in rising order of the pots.
@@ -62,15 +82,16 @@ fn add_charges(
     ensures { OnOk result (list.new.items ≡ list.old.items ++ charges_from (index + 1) 1 (column index charges.now)) }
 {
     let company = index as u64 + 1;
-    for (k, pot) in charges.iter().enumerate() {
-        let charge = Charge {
-            company,
-            pot: k as u64 + 1,
-            cents: pot[index],
-        };
-        add_charge(list, charge)?;
-    }
-    Ok(())
+    list.extend(
+        (1..20)
+            .zip(charges)
+            .map(|(number, cents)| Charge {
+                company,
+                pot: number,
+                cents: cents[index],
+            })
+            .filter(|charge| charge.cents > 0),
+    )
 }
 
 // The charges above 0, in rising order of the companies, and for each in rising order of the pots.
@@ -78,26 +99,9 @@ pub fn charges(heap: Global, charges: &[[u64; 32]; 19]) -> Result<Vec<Charge>, A
     ensures { IfOk result (λ v. v.items ≡ charges_of 32 charges.now) }
 {
     let mut list = Vec::new(heap);
+    // Kept: an index stands for one company in the rows of all pots, and no iterator goes down the rows.
     for index in 0..32 {
         add_charges(&mut list, charges, index)?;
     }
     Ok(list)
-}
-
-// The number of a refusal.
-pub fn refusal_number(refusal: &Refusal) -> u8
-    ensures { result ≡ number_of refusal.now }
-{
-    match refusal {
-        Refusal::Stage => 1,
-        Refusal::Limits => 2,
-        Refusal::Unregistered => 3,
-        Refusal::Again => 4,
-        Refusal::Full => 5,
-        Refusal::Barred => 6,
-        Refusal::NoPerformance => 7,
-        Refusal::Credits => 8,
-        Refusal::NoWeight => 9,
-        Refusal::Short => 10,
-    }
 }

@@ -1,24 +1,24 @@
 -- What a line writes is read of it.
-use Rattle.std.proofs.Common.{◌≡◌, ℕ, ◌+◌, ◌/◌, ◌%◌, ◌^◌, ◌<◌, Bool, true, cond, not, ◌&&◌, eqb, List, [], ◌∷◌, map, length, Some, None, decimal, refl, ap, ◌∙◌, arith}
+use Rattle.std.proofs.Common.{◌≡◌, ℕ, ◌+◌, ◌/◌, ◌%◌, ◌^◌, ◌<◌, Bool, true, cond, not, ◌&&◌, eqb, List, [], ◌∷◌, map, length, Some, None, decimal, Option, sym, refl, ap, ◌∙◌, subst, arith}
 use Rattle.std.specs.Option.{option_map}
 use Rattle.std.specs.Str.Iter.{LacksByte}
 use Rattle.std.specs.List.{join_with_byte, AllByRecursion}
 use Rattle.std.specs.Int.{IsInRange}
 use Rattle.std.proofs.lemmas.Bool.Decides.{nat_tests}
 use Rattle.payers.specs.declared.readings.Reading.{Reading}
+use Rattle.prorating.specs.declared.built_in.BuiltIn.{BuiltIn}
 use Rattle.prorating.specs.declared.built_in.BuiltIn.TheVariants.{Running, Largest}
 use Rattle.worth.specs.Lines.{kind}
 use Rattle.worth.specs.declared.line.Line as hourly
 use Rattle.worth.specs.declared.line.Line.TheVariants.{UpwardAvailability, UpwardActivation, Downward, OverCost, Opportunity, ExtraFuel, ExtraResource, ExtraWithdrawal}
 use Rattle.words.proofs.Numbers.{number_back, lacks_number}
 use Rattle.words.proofs.Pieces.{split_rejoined, lacks_cons}
-use Rattle.script.specs.declared.step.Step.{Step}
-use Rattle.script.specs.declared.step.Step.TheVariants as step
+use Rattle.month.specs.declared.calls.StageCall.TheVariants.{Open, Settle, Reopen, Confirm}
+use Rattle.month.specs.Meant.{Meant, post, stage, company, replace, unit, performance, line, installation, meter, point, shed}
 use Rattle.script.specs.declared.word.Word.{Word}
 use Rattle.script.specs.declared.word.Word.TheVariants as word
-use Rattle.script.specs.Calls.{brings}
 use Rattle.script.specs.Words.{name, word_of}
-use Rattle.script.specs.Lines.{and_then, numbers_of, line_of, step_of, pairs, readings_of, settled, with_readings, on_word, by_word, said_by, said_of}
+use Rattle.script.specs.Lines.{and_then, numbers_of, line_of, call_of, pairs, settled, on_word, by_word, said_by, said_of}
 use Rattle.script.specs.Texts.{figures, flat, numbers, written, Exactly}
 use Rattle.script.proofs.Only.{said_only}
 
@@ -94,45 +94,38 @@ pairs_flat (r ∷ rs) = let p = pairs_flat rs in (ap (λ qs. r ∷ qs) p.0, omeg
 shed_count : (m n : ℕ) → m ≡ n + n → eqb (m % 2) 0 && eqb (m / 2) n ≡ true
 shed_count m n e = grind (arith, nat_tests)
 
--- a line of a word and the numbers of a step
-module _ (w : Word) (s : Step) (rs : List Reading) (all : AllByRecursion Small (numbers s rs)) where
-  fields_back : step_of w (numbers s rs) ≡ Some s → readings_of s (numbers s rs) ≡ rs → by_word (name w ∷ map decimal (numbers s rs)) ≡ Some (s, rs)
-  fields_back t r =
-      ap (λ o. on_word o (map decimal (numbers s rs))) (word_back w)
-      ∙ ap (λ o. and_then o (λ ns. with_readings ns (step_of w ns))) (numbers_back (numbers s rs) all)
-      ∙ ap (with_readings (numbers s rs)) t
-      ∙ ap (λ qs. Some (s, qs)) r
+-- a line of a word and the numbers of a call
+line_of_word : (w : Word) (x : Meant BuiltIn) → AllByRecursion Small (numbers x) → settled (join_with_byte 32 (name w ∷ map decimal (numbers x))) ≡ None → call_of w (numbers x) ≡ Some x → said_of (join_with_byte 32 (name w ∷ map decimal (numbers x))) ≡ Some x
+line_of_word w x all u t =
+    ap (λ o. said_by o (join_with_byte 32 (name w ∷ map decimal (numbers x)))) u
+    ∙ ap by_word (split_rejoined 32 (name w) (map decimal (numbers x)) (free_lacks 32 (name w) (name_free w), numbers_lack 32 (λ i. omega arith) (numbers x) all))
+    ∙ ap (λ o. on_word o (map decimal (numbers x))) (word_back w)
+    ∙ ap (λ o. and_then o (call_of w)) (numbers_back (numbers x) all)
+    ∙ t
 
-  line_of_word : settled (join_with_byte 32 (name w ∷ map decimal (numbers s rs))) ≡ None → step_of w (numbers s rs) ≡ Some s → readings_of s (numbers s rs) ≡ rs → said_of (join_with_byte 32 (name w ∷ map decimal (numbers s rs))) ≡ Some (s, rs)
-  line_of_word u t r =
-      ap (λ o. said_by o (join_with_byte 32 (name w ∷ map decimal (numbers s rs)))) u
-      ∙ ap by_word (split_rejoined 32 (name w) (map decimal (numbers s rs)) (free_lacks 32 (name w) (name_free w), numbers_lack 32 (λ i. omega arith) (numbers s rs) all))
-      ∙ fields_back t r
-
--- no readings
-none_left : (rs : List Reading) → length rs ≡ 0 → [] ≡ rs
-none_left [] e = refl
-none_left (r ∷ rs) e = absurd (omega arith)
-
-pub said_back : (s : Step) (rs : List Reading) → AllByRecursion Small (numbers s rs) → length rs ≡ brings s → said_of (written (s, rs)) ≡ Some (s, rs)
-said_back (step.Open t) rs all e = line_of_word word.Open (step.Open t) rs all refl refl (none_left rs e)
-said_back (step.Company n) rs all e = line_of_word word.Company (step.Company n) rs all refl refl (none_left rs e)
-said_back (step.Replace o n) rs all e = line_of_word word.Replace (step.Replace o n) rs all refl refl (none_left rs e)
-said_back (step.Unit n o z) rs all e = line_of_word word.Unit (step.Unit n o z) rs all refl refl (none_left rs e)
-said_back (step.Performance u f p) rs all e = line_of_word word.Performance (step.Performance u f p) rs all refl refl (none_left rs e)
-said_back (step.Line u h f l) rs all e =
-    line_of_word word.Line (step.Line u h f l) rs all refl (ap (option_map (λ m. step.Line u h f m)) (line_back l)) (none_left rs e)
-said_back (step.Installation u f a m) rs all e = line_of_word word.Installation (step.Installation u f a m) rs all refl refl (none_left rs e)
-said_back (step.Meter c w i) rs all e = line_of_word word.Meter (step.Meter c w i) rs all refl refl (none_left rs e)
-said_back (step.Point n s) rs all e = line_of_word word.Point (step.Point n s) rs all refl refl (none_left rs e)
-said_back (step.Shed p k s z n) rs all e =
-    let count = shed_count (length (flat rs)) n ((pairs_flat rs).1 ∙ ap (λ m. m + m) e) in
-    line_of_word word.Shed (step.Shed p k s z n) rs all refl (ap (λ b. cond b (Some (step.Shed p k s z n)) None) count) (pairs_flat rs).0
-said_back (step.Settle Running) rs all e = ap (λ qs. Some (step.Settle Running, qs)) (none_left rs e)
-said_back (step.Settle Largest) rs all e = ap (λ qs. Some (step.Settle Largest, qs)) (none_left rs e)
-said_back step.Reopen rs all e = line_of_word word.Reopen step.Reopen rs all refl refl (none_left rs e)
-said_back step.Confirm rs all e = line_of_word word.Confirm step.Confirm rs all refl refl (none_left rs e)
+pub said_back : (x : Meant BuiltIn) → AllByRecursion Small (numbers x) → said_of (written x) ≡ Some x
+said_back (post (company n)) all = line_of_word word.Company (post (company n)) all refl refl
+said_back (post (replace o n)) all = line_of_word word.Replace (post (replace o n)) all refl refl
+said_back (post (unit n o z)) all = line_of_word word.Unit (post (unit n o z)) all refl refl
+said_back (post (performance u f p)) all = line_of_word word.Performance (post (performance u f p)) all refl refl
+said_back (post (line u h f l)) all = line_of_word word.Line (post (line u h f l)) all refl (ap (option_map (λ m. post (line u h f m))) (line_back l))
+said_back (post (installation u f a m)) all = line_of_word word.Installation (post (installation u f a m)) all refl refl
+said_back (post (meter c w i)) all = line_of_word word.Meter (post (meter c w i)) all refl refl
+said_back (post (point n s)) all = line_of_word word.Point (post (point n s)) all refl refl
+said_back (post (shed p k s z rs)) all =
+    let back = pairs_flat rs in
+    let count = shed_count (length (flat rs)) (length rs) back.1 in
+    line_of_word word.Shed (post (shed p k s z rs)) all refl
+    (ap (λ b. cond b (Some (post (shed p k s z (pairs (flat rs))))) None) count ∙ ap (λ qs. Some (post (shed p k s z qs))) back.0)
+said_back (stage (Open t)) all = line_of_word word.Open (stage (Open t)) all refl refl
+said_back (stage (Settle Running)) all = refl
+said_back (stage (Settle Largest)) all = refl
+said_back (stage Reopen) all = line_of_word word.Reopen (stage Reopen) all refl refl
+said_back (stage Confirm) all = line_of_word word.Confirm (stage Confirm) all refl refl
 
 -- a line is read as what it writes, and as nothing else
-pub exactly : (line : List ℕ) → Exactly line (said_of line)
-exactly line x = (λ h. said_only line x h, λ says. ap said_of says.text ∙ said_back x.0 x.1 says.small says.sized)
+pub exactly : (text : List ℕ) → Exactly text (said_of text)
+exactly text x = (λ h. said_only text x h, λ says. ap said_of says.text ∙ said_back x says.small)
+
+pub exactly_said : (text : List ℕ) (m : Option (Meant BuiltIn)) → m ≡ said_of text → Exactly text m
+exactly_said text m e = subst (Exactly text) (sym e) (exactly text)

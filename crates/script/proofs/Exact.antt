@@ -5,56 +5,52 @@ use Rattle.std.specs.Str.Iter.{LacksByte}
 use Rattle.std.proofs.ByRecursion.{All-append}
 use Rattle.std.proofs.lemmas.List.{append_cancel_right}
 use Rattle.std.proofs.lemmas.Bool.Decides.{nat_tests}
+use Rattle.prorating.specs.declared.built_in.BuiltIn.{BuiltIn}
 use Rattle.prorating.specs.declared.built_in.BuiltIn.TheVariants.{Running, Largest}
 use Rattle.words.specs.Words.{split}
 use Rattle.words.proofs.Pieces.{first_piece, split_first, split_rejoined, rejoined_split, lacks_rejoined}
+use Rattle.month.specs.declared.calls.StageCall.TheVariants.{Open, Settle, Reopen, Confirm}
+use Rattle.month.specs.Meant.{Meant, post, stage, company, replace, unit, performance, line, installation, meter, point, shed}
 use Rattle.script.specs.declared.fault.Fault.{Fault}
 use Rattle.script.specs.declared.fault.Fault.TheVariants.{Memory, NoCall}
 use Rattle.script.specs.declared.reader.Script.{Script}
-use Rattle.script.specs.declared.step.Step.{Step}
-use Rattle.script.specs.declared.step.Step.TheVariants.{Open, Company, Replace, Unit, Performance, Line, Installation, Meter, Point, Shed, Settle, Reopen, Confirm}
-use Rattle.script.specs.Calls.{Meant}
 use Rattle.script.specs.Lines.{said_of}
 use Rattle.script.specs.Texts.{front, numbers, written, Sound, SaysAll}
 use Rattle.script.specs.Held.{held}
 use Rattle.script.specs.Scripts.{whole_lines, lines_of, onto, on_line, calls_from, reading, Reads, Exact}
-use Rattle.script.proofs.Counts.{none_some}
 use Rattle.script.proofs.Only.{said_only}
 use Rattle.script.proofs.Back.{free, free_lacks, numbers_lack, said_back}
 
-err_ok : {X : Type 0} {e : Fault} {x : X} → ◌≡◌ {A = Result X Fault} (Err e) (Ok x) → ⊥
-err_ok h = let z : ◌≡◌ {A = ℕ} 0 1 = cc in omega arith
-
-ok_is : {x y : List Meant} → ◌≡◌ {A = Result (List Meant) Fault} (Ok x) (Ok y) → x ≡ y
+ok_is : {x y : List (Meant BuiltIn)} → ◌≡◌ {A = Result (List (Meant BuiltIn)) Fault} (Ok x) (Ok y) → x ≡ y
 ok_is h = cc
 
 -- the calls of lines are those that the lines write
-abbrev Lines : List (List ℕ) → List Meant → Type 0
+abbrev Lines : List (List ℕ) → List (Meant BuiltIn) → Type 0
 Lines ls xs = (ls ≡ map written xs) × AllByRecursion Sound xs
 
-module _ (k : ℕ) (l : List ℕ) (ls : List (List ℕ)) (xs : List Meant) where
-  onto_only : (x : Meant) (r : Result (List Meant) Fault) → said_of l ≡ Some x → ((ys : List Meant) → r ≡ Ok ys → Lines ls ys) → onto x r ≡ Ok xs → Lines (l ∷ ls) xs
-  onto_only x (Err e) s ih h = absurd (err_ok h)
+module _ (k : ℕ) (l : List ℕ) (ls : List (List ℕ)) (xs : List (Meant BuiltIn)) where
+  onto_only : (x : Meant BuiltIn) (r : Result (List (Meant BuiltIn)) Fault) → said_of l ≡ Some x → ((ys : List (Meant BuiltIn)) → r ≡ Ok ys → Lines ls ys) → onto x r ≡ Ok xs → Lines (l ∷ ls) xs
+  onto_only x (Err e) s ih h = cc
   onto_only x (Ok ys) s ih h =
       let says = said_only l x s in
       let rest = ih ys refl in
       subst (Lines (l ∷ ls)) (ok_is h) (
         ap (λ m. m ∷ ls) says.text ∙ ap (λ ms. written x ∷ ms) rest.0,
-        (record { text = refl; small = says.small; sized = says.sized }, rest.1),
+        (record { text = refl; small = says.small }, rest.1),
       )
 
-  line_only : (o : Option Meant) → said_of l ≡ o → ((ys : List Meant) → calls_from (k + 1) ls ≡ Ok ys → Lines ls ys) → on_line k o (calls_from (k + 1) ls) ≡ Ok xs → Lines (l ∷ ls) xs
-  line_only None s ih h = absurd (err_ok h)
+  line_only : (o : Option (Meant BuiltIn)) → said_of l ≡ o → ((ys : List (Meant BuiltIn)) → calls_from (k + 1) ls ≡ Ok ys → Lines ls ys) → on_line k o (calls_from (k + 1) ls) ≡ Ok xs → Lines (l ∷ ls) xs
+  line_only None s ih h = cc
   line_only (Some x) s ih h = onto_only x (calls_from (k + 1) ls) s ih h
 
-calls_only : (k : ℕ) (ls : List (List ℕ)) (xs : List Meant) → calls_from k ls ≡ Ok xs → Lines ls xs
+calls_only : (k : ℕ) (ls : List (List ℕ)) (xs : List (Meant BuiltIn)) → calls_from k ls ≡ Ok xs → Lines ls xs
 calls_only k [] xs h = subst (Lines []) (ok_is h) (refl, tt)
 calls_only k (l ∷ ls) xs h = line_only k l ls xs (said_of l) refl (λ ys. calls_only (k + 1) ls ys) h
 
-sound_back : (x : Meant) → Sound x → said_of (written x) ≡ Some x
-sound_back x s = said_back x.0 x.1 s.small s.sized
+sound_back : (x : Meant BuiltIn) → Sound x → said_of (written x) ≡ Some x
+sound_back x s = said_back x s.small
 
-calls_back : (k : ℕ) (xs : List Meant) → AllByRecursion Sound xs → calls_from k (map written xs) ≡ Ok xs
+calls_back : (k : ℕ) (xs : List (Meant BuiltIn)) → AllByRecursion Sound xs → calls_from k (map written xs) ≡ Ok xs
 calls_back k [] all = refl
 calls_back k (x ∷ xs) all =
     ap (λ o. on_line k o (calls_from (k + 1) (map written xs))) (sound_back x all.0) ∙ ap (onto x) (calls_back (k + 1) xs all.1)
@@ -79,7 +75,7 @@ lines_text bytes =
     let Q : List ℕ → Type 0 = λ t. (t ≡ ends (lines_of bytes)) ⊎ (t ++ 10 ∷ [] ≡ ends (lines_of bytes)) in
     subst Q (rejoined_split 10 bytes) (subst P (sym p.2) (pieces_text p.0 p.1))
 
-pub reading_only : (bytes : List ℕ) (xs : List Meant) → reading bytes ≡ Ok xs → SaysAll bytes xs
+pub reading_only : (bytes : List ℕ) (xs : List (Meant BuiltIn)) → reading bytes ≡ Ok xs → SaysAll bytes xs
 reading_only bytes xs h =
     let l = calls_only 1 (lines_of bytes) xs h in
     let Q : List (List ℕ) → Type 0 = λ ls. (bytes ≡ ends ls) ⊎ (bytes ++ 10 ∷ [] ≡ ends ls) in
@@ -94,37 +90,37 @@ fields_lack : (b : ℕ) (fs : List (List ℕ)) → fields_free b fs ≡ true →
 fields_lack b [] e = tt
 fields_lack b (f ∷ fs) e = (free_lacks b f (grind (arith, nat_tests)), fields_lack b fs (grind (arith, nat_tests)))
 
-front_free : (s : Step) → fields_free 10 (front s) ≡ true
-front_free (Open t) = refl
-front_free (Company n) = refl
-front_free (Replace o n) = refl
-front_free (Unit n o z) = refl
-front_free (Performance u f p) = refl
-front_free (Line u h f l) = refl
-front_free (Installation u f a m) = refl
-front_free (Meter c w i) = refl
-front_free (Point n s) = refl
-front_free (Shed p k s z n) = refl
-front_free (Settle Running) = refl
-front_free (Settle Largest) = refl
-front_free Reopen = refl
-front_free Confirm = refl
+front_free : (x : Meant BuiltIn) → fields_free 10 (front x) ≡ true
+front_free (post (company n)) = refl
+front_free (post (replace o n)) = refl
+front_free (post (unit n o z)) = refl
+front_free (post (performance u f p)) = refl
+front_free (post (line u h f l)) = refl
+front_free (post (installation u f a m)) = refl
+front_free (post (meter c w i)) = refl
+front_free (post (point n s)) = refl
+front_free (post (shed p k s z rs)) = refl
+front_free (stage (Open t)) = refl
+front_free (stage (Settle Running)) = refl
+front_free (stage (Settle Largest)) = refl
+front_free (stage Reopen) = refl
+front_free (stage Confirm) = refl
 
 abbrev LineText : List ℕ → Type 0
 LineText l = LacksByte 10 l × (0 < length l)
 
-some_text : (l : List ℕ) (x : Meant) → said_of l ≡ Some x → 0 < length l
-some_text [] x h = absurd (none_some h)
+some_text : (l : List ℕ) (x : Meant BuiltIn) → said_of l ≡ Some x → 0 < length l
+some_text [] x h = cc
 some_text (c ∷ l) x h = omega arith
 
-written_text : (x : Meant) → Sound x → LineText (written x)
+written_text : (x : Meant BuiltIn) → Sound x → LineText (written x)
 written_text x s = (
-  lacks_rejoined 10 32 (front x.0 ++ map decimal (numbers x.0 x.1)) (λ e. omega arith)
-      (All-append (LacksByte 10) (front x.0) (map decimal (numbers x.0 x.1)) (fields_lack 10 (front x.0) (front_free x.0)) (numbers_lack 10 (λ i. omega arith) (numbers x.0 x.1) s.small)),
+  lacks_rejoined 10 32 (front x ++ map decimal (numbers x)) (λ e. omega arith)
+      (All-append (LacksByte 10) (front x) (map decimal (numbers x)) (fields_lack 10 (front x) (front_free x)) (numbers_lack 10 (λ i. omega arith) (numbers x) s.small)),
   some_text (written x) x (sound_back x s),
 )
 
-written_texts : (xs : List Meant) → AllByRecursion Sound xs → AllByRecursion LineText (map written xs)
+written_texts : (xs : List (Meant BuiltIn)) → AllByRecursion Sound xs → AllByRecursion LineText (map written xs)
 written_texts [] all = tt
 written_texts (x ∷ xs) all = (written_text x all.0, written_texts xs all.1)
 
@@ -168,11 +164,11 @@ lines_by : (bytes : List ℕ) (ls : List (List ℕ)) → AllByRecursion LineText
 lines_by bytes ls all (inl e) = ap lines_of e ∙ ended_lines ls all
 lines_by bytes ls all (inr e) = open_lines bytes ls all e
 
-pub reading_back : (bytes : List ℕ) (xs : List Meant) → SaysAll bytes xs → reading bytes ≡ Ok xs
+pub reading_back : (bytes : List ℕ) (xs : List (Meant BuiltIn)) → SaysAll bytes xs → reading bytes ≡ Ok xs
 reading_back bytes xs says =
     ap (calls_from 1) (lines_by bytes (map written xs) (written_texts xs says.sound) says.text) ∙ calls_back 1 xs says.sound
 
 pub script_exact : (bytes : List ℕ) (r : Result Script Fault) → Reads bytes r → Exact bytes r
 script_exact bytes (Ok s) h = (reading_only bytes (held s) h, λ xs says. ok_is (sym (reading_back bytes xs says) ∙ h))
-script_exact bytes (Err (NoCall k)) h = λ xs says. err_ok (sym h ∙ reading_back bytes xs says)
+script_exact bytes (Err (NoCall k)) h = λ xs says. let same = sym h ∙ reading_back bytes xs says in cc
 script_exact bytes (Err Memory) h = tt

@@ -1,8 +1,6 @@
-pub mod Lookup
 pub mod Turns
 pub mod Counts
 pub mod Only
 pub mod Back
-pub mod Pools
 pub mod Whole
 pub mod Exact

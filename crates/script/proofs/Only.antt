@@ -12,19 +12,18 @@ use Rattle.worth.specs.declared.line.Line.TheVariants.{UpwardAvailability, Upwar
 use Rattle.words.specs.Words.{number_of, split}
 use Rattle.words.proofs.Numbers.{number_only}
 use Rattle.words.proofs.Pieces.{first_piece, rejoined_split}
-use Rattle.script.specs.declared.step.Step.{Step}
-use Rattle.script.specs.declared.step.Step.TheVariants as step
+use Rattle.month.specs.declared.calls.StageCall.TheVariants.{Settle}
+use Rattle.month.specs.Meant.{Meant, post, stage, line, shed}
 use Rattle.script.specs.declared.word.Word.{Word}
 use Rattle.script.specs.declared.word.Word.TheVariants as word
-use Rattle.script.specs.Calls.{Meant, brings}
 use Rattle.script.specs.Words.{name, among, words, word_of}
-use Rattle.script.specs.Lines.{and_then, numbers_of, low_kind, high_kind, or_else, line_of, lined, shed_of, step_of, pairs, readings_of, settled, with_readings, on_word, by_word, said_by, said_of}
+use Rattle.script.specs.Lines.{and_then, numbers_of, low_kind, high_kind, or_else, line_of, lined, shed_of, call_of, pairs, settled, on_word, by_word, said_by, said_of}
 use Rattle.script.specs.Texts.{front, figures, flat, numbers, written, Says}
-use Rattle.script.proofs.Counts.{none_some, some_is, none_by, one_by, two_by, three_by, four_by, five_by, cond_by}
+use Rattle.script.proofs.Counts.{some_is, none_by, one_by, two_by, three_by, four_by, five_by, cond_by}
 
 -- a word
-pub among_only : (ws : List Word) (f : List ℕ) (w : Word) → among ws f ≡ Some w → f ≡ name w
-among_only [] f w e = absurd (none_some e)
+among_only : (ws : List Word) (f : List ℕ) (w : Word) → among ws f ≡ Some w → f ≡ name w
+among_only [] f w e = cc
 among_only (v ∷ ws) f w e =
     cond_by (bytes_eq f (name v)) (Some v) (among ws f) w (f ≡ name w)
     (λ t s. (bytes_eq-Decides f (name v)).0 t ∙ ap name (some_is s))
@@ -37,7 +36,7 @@ Small n = n < 10 ^ 11
 
 module _ (f : List ℕ) (fs : List (List ℕ)) where
   onto_only : (n : ℕ) (o : Option (List ℕ)) (ns : List ℕ) → number_of f ≡ Some n → ((ms : List ℕ) → o ≡ Some ms → (fs ≡ map decimal ms) × AllByRecursion Small ms) → option_map (λ ms. n ∷ ms) o ≡ Some ns → (f ∷ fs ≡ map decimal ns) × AllByRecursion Small ns
-  onto_only n None ns e ih h = absurd (none_some h)
+  onto_only n None ns e ih h = cc
   onto_only n (Some ms) ns e ih h =
       let first = number_only f n e in
       let rest = ih ms refl in
@@ -45,10 +44,10 @@ module _ (f : List ℕ) (fs : List (List ℕ)) where
       subst P (some_is h) (ap (λ g. g ∷ fs) first.0 ∙ ap (λ gs. decimal n ∷ gs) rest.0, (first.1, rest.1))
 
   field_only : (o : Option ℕ) (ns : List ℕ) → number_of f ≡ o → ((ms : List ℕ) → numbers_of fs ≡ Some ms → (fs ≡ map decimal ms) × AllByRecursion Small ms) → and_then o (λ n. option_map (λ ms. n ∷ ms) (numbers_of fs)) ≡ Some ns → (f ∷ fs ≡ map decimal ns) × AllByRecursion Small ns
-  field_only None ns e ih h = absurd (none_some h)
+  field_only None ns e ih h = cc
   field_only (Some n) ns e ih h = onto_only n (numbers_of fs) ns e ih h
 
-pub numbers_only : (fs : List (List ℕ)) (ns : List ℕ) → numbers_of fs ≡ Some ns → (fs ≡ map decimal ns) × AllByRecursion Small ns
+numbers_only : (fs : List (List ℕ)) (ns : List ℕ) → numbers_of fs ≡ Some ns → (fs ≡ map decimal ns) × AllByRecursion Small ns
 numbers_only [] ns h = let P : List ℕ → Type 0 = λ l. ([] ≡ map decimal l) × AllByRecursion Small l in subst P (some_is h) (refl, tt)
 numbers_only (f ∷ fs) ns h = field_only f fs (number_of f) ns refl (λ ms. numbers_only fs ms) h
 
@@ -63,7 +62,7 @@ low_only k fs l =
     (cond_by (eqb k 2) _ _ l (Kind k fs l) (λ t. two_by UpwardActivation Q (λ a b. (eqb-true k 2 t, refl)) fs l)
     (cond_by (eqb k 3) _ _ l (Kind k fs l) (λ t. three_by Downward Q (λ a b c. (eqb-true k 3 t, refl)) fs l)
     (cond_by (eqb k 4) _ _ l (Kind k fs l) (λ t. three_by OverCost Q (λ a b c. (eqb-true k 4 t, refl)) fs l)
-    (λ h. absurd (none_some h)))))
+    (λ h. cc))))
 
 high_only : (k : ℕ) (fs : List ℕ) (l : hourly.Line) → high_kind k fs ≡ Some l → Kind k fs l
 high_only k fs l =
@@ -72,7 +71,7 @@ high_only k fs l =
     (cond_by (eqb k 6) _ _ l (Kind k fs l) (λ t. four_by ExtraFuel Q (λ a b c d. (eqb-true k 6 t, refl)) fs l)
     (cond_by (eqb k 7) _ _ l (Kind k fs l) (λ t. four_by ExtraResource Q (λ a b c d. (eqb-true k 7 t, refl)) fs l)
     (cond_by (eqb k 8) _ _ l (Kind k fs l) (λ t. three_by ExtraWithdrawal Q (λ a b c. (eqb-true k 8 t, refl)) fs l)
-    (λ h. absurd (none_some h)))))
+    (λ h. cc))))
 
 line_only : (k : ℕ) (fs : List ℕ) (l : hourly.Line) → line_of k fs ≡ Some l → Kind k fs l
 line_only k fs l = by (low_kind k fs) refl
@@ -81,28 +80,27 @@ line_only k fs l = by (low_kind k fs) refl
     by (Some m) e h = low_only k fs l (e ∙ h)
     by None e h = high_only k fs l h
 
--- the word, the numbers and the count of readings are those of the step
-pub record Fits (w : Word) (ns : List ℕ) (s : Step) : Type 0 where
-  pub first : name w ∷ [] ≡ front s
-  pub rest : ns ≡ numbers s (readings_of s ns)
-  pub sized : length (readings_of s ns) ≡ brings s
+-- the word and the numbers are those of the call
+record Fits (w : Word) (ns : List ℕ) (x : Meant BuiltIn) : Type 0 where
+  first : name w ∷ [] ≡ front x
+  rest : ns ≡ numbers x
 
-lined_fits : (u h k f : ℕ) (fs : List ℕ) (o : Option hourly.Line) (s : Step) → line_of k fs ≡ o → option_map (λ l. step.Line u h f l) o ≡ Some s → Fits word.Line (u ∷ h ∷ k ∷ f ∷ fs) s
-lined_fits u h k f fs None s e m = absurd (none_some m)
-lined_fits u h k f fs (Some l) s e m =
+lined_fits : (u h k f : ℕ) (fs : List ℕ) (o : Option hourly.Line) (x : Meant BuiltIn) → line_of k fs ≡ o → option_map (λ l. post (line u h f l)) o ≡ Some x → Fits word.Line (u ∷ h ∷ k ∷ f ∷ fs) x
+lined_fits u h k f fs None x e m = cc
+lined_fits u h k f fs (Some l) x e m =
     let p = line_only k fs l e in
     subst (Fits word.Line (u ∷ h ∷ k ∷ f ∷ fs)) (some_is m)
-    (record { first = refl; rest = ap (λ n. u ∷ h ∷ n ∷ f ∷ fs) p.0 ∙ ap (λ gs. u ∷ h ∷ kind l ∷ f ∷ gs) p.1; sized = refl })
+    (record { first = refl; rest = ap (λ n. u ∷ h ∷ n ∷ f ∷ fs) p.0 ∙ ap (λ gs. u ∷ h ∷ kind l ∷ f ∷ gs) p.1 })
 
-line_fits : (ns : List ℕ) (s : Step) → lined ns ≡ Some s → Fits word.Line ns s
-line_fits [] s e = absurd (none_some e)
-line_fits (u ∷ []) s e = absurd (none_some e)
-line_fits (u ∷ h ∷ []) s e = absurd (none_some e)
-line_fits (u ∷ h ∷ k ∷ []) s e = absurd (none_some e)
-line_fits (u ∷ h ∷ k ∷ f ∷ fs) s e = lined_fits u h k f fs (line_of k fs) s refl e
+line_fits : (ns : List ℕ) (x : Meant BuiltIn) → lined ns ≡ Some x → Fits word.Line ns x
+line_fits [] x e = cc
+line_fits (u ∷ []) x e = cc
+line_fits (u ∷ h ∷ []) x e = cc
+line_fits (u ∷ h ∷ k ∷ []) x e = cc
+line_fits (u ∷ h ∷ k ∷ f ∷ fs) x e = lined_fits u h k f fs (line_of k fs) x refl e
 
 -- a shedding
-pub flat_pairs : (ns : List ℕ) (n : ℕ) → length ns ≡ n + n → (ns ≡ flat (pairs ns)) × (length (pairs ns) ≡ n)
+flat_pairs : (ns : List ℕ) (n : ℕ) → length ns ≡ n + n → (ns ≡ flat (pairs ns)) × (length (pairs ns) ≡ n)
 flat_pairs [] n e = (refl, omega arith)
 flat_pairs (u ∷ []) n e = absurd (omega arith)
 flat_pairs (u ∷ k ∷ ns) zero e = absurd (omega arith)
@@ -110,78 +108,74 @@ flat_pairs (u ∷ k ∷ ns) (suc n) e =
     let r = flat_pairs ns n (omega arith) in
     (ap (λ ms. u ∷ k ∷ ms) r.0, omega (arith, r.1))
 
-shed_fits_by : (p k c z n : ℕ) (ns : List ℕ) (b : Bool) (s : Step) → eqb (length ns % 2) 0 && eqb (length ns / 2) n ≡ b → cond b (Some (step.Shed p k c z n)) None ≡ Some s → Fits word.Shed (p ∷ k ∷ c ∷ z ∷ n ∷ ns) s
-shed_fits_by p k c z n ns false s e m = absurd (none_some m)
-shed_fits_by p k c z n ns true s e m =
+shed_fits_by : (p k c z n : ℕ) (ns : List ℕ) (b : Bool) (x : Meant BuiltIn) → eqb (length ns % 2) 0 && eqb (length ns / 2) n ≡ b → cond b (Some (post (shed p k c z (pairs ns)))) None ≡ Some x → Fits word.Shed (p ∷ k ∷ c ∷ z ∷ n ∷ ns) x
+shed_fits_by p k c z n ns false x e m = cc
+shed_fits_by p k c z n ns true x e m =
     let even : length ns ≡ n + n = grind (arith, nat_tests) in
     let r = flat_pairs ns n even in
-    subst (Fits word.Shed (p ∷ k ∷ c ∷ z ∷ n ∷ ns)) (some_is m) (record { first = refl; rest = ap (λ ms. p ∷ k ∷ c ∷ z ∷ n ∷ ms) r.0; sized = r.1 })
+    subst (Fits word.Shed (p ∷ k ∷ c ∷ z ∷ n ∷ ns)) (some_is m)
+    (record { first = refl; rest = ap (λ ms. p ∷ k ∷ c ∷ z ∷ n ∷ ms) r.0 ∙ ap (λ m. p ∷ k ∷ c ∷ z ∷ m ∷ flat (pairs ns)) (sym r.1) })
 
-shed_fits : (ns : List ℕ) (s : Step) → shed_of ns ≡ Some s → Fits word.Shed ns s
-shed_fits [] s e = absurd (none_some e)
-shed_fits (p ∷ []) s e = absurd (none_some e)
-shed_fits (p ∷ k ∷ []) s e = absurd (none_some e)
-shed_fits (p ∷ k ∷ c ∷ []) s e = absurd (none_some e)
-shed_fits (p ∷ k ∷ c ∷ z ∷ []) s e = absurd (none_some e)
-shed_fits (p ∷ k ∷ c ∷ z ∷ n ∷ ns) s e = shed_fits_by p k c z n ns (eqb (length ns % 2) 0 && eqb (length ns / 2) n) s refl e
+shed_fits : (ns : List ℕ) (x : Meant BuiltIn) → shed_of ns ≡ Some x → Fits word.Shed ns x
+shed_fits [] x e = cc
+shed_fits (p ∷ []) x e = cc
+shed_fits (p ∷ k ∷ []) x e = cc
+shed_fits (p ∷ k ∷ c ∷ []) x e = cc
+shed_fits (p ∷ k ∷ c ∷ z ∷ []) x e = cc
+shed_fits (p ∷ k ∷ c ∷ z ∷ n ∷ ns) x e = shed_fits_by p k c z n ns (eqb (length ns % 2) 0 && eqb (length ns / 2) n) x refl e
 
-abbrev fits : {w : Word} {ns : List ℕ} {s : Step} → name w ∷ [] ≡ front s → ns ≡ numbers s (readings_of s ns) → length (readings_of s ns) ≡ brings s → Fits w ns s
-fits a b c = record { first = a; rest = b; sized = c }
+abbrev fits : {w : Word} {ns : List ℕ} {x : Meant BuiltIn} → name w ∷ [] ≡ front x → ns ≡ numbers x → Fits w ns x
+fits a b = record { first = a; rest = b }
 
-pub step_fits : (w : Word) (ns : List ℕ) (s : Step) → step_of w ns ≡ Some s → Fits w ns s
-step_fits word.Open ns s e = five_by _ (λ t ms. Fits word.Open ms t) (λ a b c d f. fits refl refl refl) ns s e
-step_fits word.Company ns s e = one_by _ (λ t ms. Fits word.Company ms t) (λ a. fits refl refl refl) ns s e
-step_fits word.Replace ns s e = two_by _ (λ t ms. Fits word.Replace ms t) (λ a b. fits refl refl refl) ns s e
-step_fits word.Unit ns s e = three_by _ (λ t ms. Fits word.Unit ms t) (λ a b c. fits refl refl refl) ns s e
-step_fits word.Performance ns s e = four_by _ (λ t ms. Fits word.Performance ms t) (λ a b c d. fits refl refl refl) ns s e
-step_fits word.Line ns s e = line_fits ns s e
-step_fits word.Installation ns s e = four_by _ (λ t ms. Fits word.Installation ms t) (λ a b c d. fits refl refl refl) ns s e
-step_fits word.Meter ns s e = three_by _ (λ t ms. Fits word.Meter ms t) (λ a b c. fits refl refl refl) ns s e
-step_fits word.Point ns s e = two_by _ (λ t ms. Fits word.Point ms t) (λ a b. fits refl refl refl) ns s e
-step_fits word.Shed ns s e = shed_fits ns s e
-step_fits word.Reopen ns s e = none_by _ (λ t ms. Fits word.Reopen ms t) (fits refl refl refl) ns s e
-step_fits word.Confirm ns s e = none_by _ (λ t ms. Fits word.Confirm ms t) (fits refl refl refl) ns s e
+call_fits : (w : Word) (ns : List ℕ) (x : Meant BuiltIn) → call_of w ns ≡ Some x → Fits w ns x
+call_fits word.Open ns x e = five_by _ (λ y ms. Fits word.Open ms y) (λ a b c d f. fits refl refl) ns x e
+call_fits word.Company ns x e = one_by _ (λ y ms. Fits word.Company ms y) (λ a. fits refl refl) ns x e
+call_fits word.Replace ns x e = two_by _ (λ y ms. Fits word.Replace ms y) (λ a b. fits refl refl) ns x e
+call_fits word.Unit ns x e = three_by _ (λ y ms. Fits word.Unit ms y) (λ a b c. fits refl refl) ns x e
+call_fits word.Performance ns x e = four_by _ (λ y ms. Fits word.Performance ms y) (λ a b c d. fits refl refl) ns x e
+call_fits word.Line ns x e = line_fits ns x e
+call_fits word.Installation ns x e = four_by _ (λ y ms. Fits word.Installation ms y) (λ a b c d. fits refl refl) ns x e
+call_fits word.Meter ns x e = three_by _ (λ y ms. Fits word.Meter ms y) (λ a b c. fits refl refl) ns x e
+call_fits word.Point ns x e = two_by _ (λ y ms. Fits word.Point ms y) (λ a b. fits refl refl) ns x e
+call_fits word.Shed ns x e = shed_fits ns x e
+call_fits word.Reopen ns x e = none_by _ (λ y ms. Fits word.Reopen ms y) (fits refl refl) ns x e
+call_fits word.Confirm ns x e = none_by _ (λ y ms. Fits word.Confirm ms y) (fits refl refl) ns x e
 
 -- a whole line
-module _ (line : List ℕ) (x : Meant) where
-  step_says : (f : List ℕ) (fs : List (List ℕ)) (w : Word) (ns : List ℕ) (o : Option Step) → split 32 line ≡ f ∷ fs → f ≡ name w → (fs ≡ map decimal ns) × AllByRecursion Small ns → step_of w ns ≡ o → with_readings ns o ≡ Some x → Says line x
-  step_says f fs w ns None e i n t h = absurd (none_some h)
-  step_says f fs w ns (Some s) e i n t h =
-      let p = step_fits w ns s t in
-      let P : Meant → Type 0 = λ y. Says line y in
-      subst P (some_is h) (record {
-        text = sym (rejoined_split 32 line) ∙ ap (join_with_byte 32) (e ∙ ap (λ g. g ∷ fs) i ∙ ap (λ gs. name w ∷ gs) n.0 ∙ ap (λ ms. name w ∷ map decimal ms) p.rest ∙ ap (λ gs. gs ++ map decimal (numbers s (readings_of s ns))) p.first);
-        small = subst (AllByRecursion Small) p.rest n.1;
-        sized = p.sized;
-      })
+module _ (text : List ℕ) (x : Meant BuiltIn) where
+  numbers_says : (f : List ℕ) (fs : List (List ℕ)) (w : Word) (o : Option (List ℕ)) → split 32 text ≡ f ∷ fs → f ≡ name w → numbers_of fs ≡ o → and_then o (call_of w) ≡ Some x → Says text x
+  numbers_says f fs w None e i n h = cc
+  numbers_says f fs w (Some ns) e i n h =
+      let only = numbers_only fs ns n in
+      let p = call_fits w ns x h in
+      record {
+        text = sym (rejoined_split 32 text) ∙ ap (join_with_byte 32) (e ∙ ap (λ g. g ∷ fs) i ∙ ap (λ gs. name w ∷ gs) only.0 ∙ ap (λ ms. name w ∷ map decimal ms) p.rest ∙ ap (λ gs. gs ++ map decimal (numbers x)) p.first);
+        small = subst (AllByRecursion Small) p.rest only.1;
+      }
 
-  numbers_says : (f : List ℕ) (fs : List (List ℕ)) (w : Word) (o : Option (List ℕ)) → split 32 line ≡ f ∷ fs → f ≡ name w → numbers_of fs ≡ o → and_then o (λ ns. with_readings ns (step_of w ns)) ≡ Some x → Says line x
-  numbers_says f fs w None e i n h = absurd (none_some h)
-  numbers_says f fs w (Some ns) e i n h = step_says f fs w ns (step_of w ns) e i (numbers_only fs ns n) refl h
-
-  word_says : (f : List ℕ) (fs : List (List ℕ)) (o : Option Word) → split 32 line ≡ f ∷ fs → word_of f ≡ o → on_word o fs ≡ Some x → Says line x
-  word_says f fs None e i h = absurd (none_some h)
+  word_says : (f : List ℕ) (fs : List (List ℕ)) (o : Option Word) → split 32 text ≡ f ∷ fs → word_of f ≡ o → on_word o fs ≡ Some x → Says text x
+  word_says f fs None e i h = cc
   word_says f fs (Some w) e i h = numbers_says f fs w (numbers_of fs) e (among_only words f w i) refl h
 
-  by_word_says : by_word (split 32 line) ≡ Some x → Says line x
+  by_word_says : by_word (split 32 text) ≡ Some x → Says text x
   by_word_says h =
-      let p = first_piece 32 line in
+      let p = first_piece 32 text in
       word_says p.0 p.1 (word_of p.0) p.2 refl (ap by_word (sym p.2) ∙ h)
 
-  settle_says : (rule : BuiltIn) → line ≡ written (step.Settle rule, []) → ◌≡◌ {A = Option Meant} (Some (step.Settle rule, [])) (Some x) → Says line x
+  settle_says : (rule : BuiltIn) → text ≡ written (stage (Settle rule)) → ◌≡◌ {A = Option (Meant BuiltIn)} (Some (stage (Settle rule))) (Some x) → Says text x
   settle_says rule t h =
-      let P : Meant → Type 0 = λ y. Says line y in
-      subst P (some_is h) (record { text = t; small = tt; sized = refl })
+      let P : Meant BuiltIn → Type 0 = λ y. Says text y in
+      subst P (some_is h) (record { text = t; small = tt })
 
-  settled_says : (o : Option BuiltIn) → settled line ≡ o → said_by o line ≡ Some x → Says line x
+  settled_says : (o : Option BuiltIn) → settled text ≡ o → said_by o text ≡ Some x → Says text x
   settled_says None e h = by_word_says h
   settled_says (Some rule) e h =
-      cond_by (bytes_eq line (codes "settle running")) _ _ rule (Says line x)
-      (λ t i. settle_says rule ((bytes_eq-Decides line (codes "settle running")).0 t ∙ ap (λ r. written (step.Settle r, [])) (some_is i)) h)
-      (cond_by (bytes_eq line (codes "settle largest")) _ _ rule (Says line x)
-      (λ t i. settle_says rule ((bytes_eq-Decides line (codes "settle largest")).0 t ∙ ap (λ r. written (step.Settle r, [])) (some_is i)) h)
-      (λ i. absurd (none_some i)))
+      cond_by (bytes_eq text (codes "settle running")) _ _ rule (Says text x)
+      (λ t i. settle_says rule ((bytes_eq-Decides text (codes "settle running")).0 t ∙ ap (λ r. written (stage (Settle r))) (some_is i)) h)
+      (cond_by (bytes_eq text (codes "settle largest")) _ _ rule (Says text x)
+      (λ t i. settle_says rule ((bytes_eq-Decides text (codes "settle largest")).0 t ∙ ap (λ r. written (stage (Settle r))) (some_is i)) h)
+      (λ i. cc))
       e
 
-  pub said_only : said_of line ≡ Some x → Says line x
-  said_only h = settled_says (settled line) refl h
+  pub said_only : said_of text ≡ Some x → Says text x
+  said_only h = settled_says (settled text) refl h

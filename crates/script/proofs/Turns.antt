@@ -1,35 +1,24 @@
 -- The turns of the reader's loops.
-use Rattle.std.proofs.Common.{◌≡◌, ℕ, ◌-◌, ◌≤◌, Bool, cond, List, [], ◌∷◌, ◌++◌, length, get_or, take, drop, Some, None, codes, Option, sym, refl, ap, ◌∙◌, append_assoc, arith}
+use Rattle.std.proofs.Common.{◌≡◌, ℕ, ◌-◌, ◌≤◌, List, [], ◌∷◌, ◌++◌, length, get_or, take, drop, Some, None, Option, sym, refl, ap, ◌∙◌, append_assoc, arith}
 use Rattle.std.specs.Option.{option_map}
-use Rattle.std.specs.Str.{bytes_eq}
 use Rattle.std.proofs.lemmas.List.{take_rest}
 use Rattle.payers.specs.declared.readings.Reading.{Reading}
-use Rattle.prorating.specs.declared.built_in.BuiltIn.TheVariants.{Running, Largest}
 use Rattle.words.specs.Words.{number_of}
-use Rattle.script.specs.declared.step.Step.{Step}
-use Rattle.script.specs.declared.step.Step.TheVariants.{Line, Shed}
-use Rattle.script.specs.Lines.{and_then, numbers_of, line_of, lined, pairs, readings_of, settled}
+use Rattle.script.specs.Lines.{and_then, numbers_of, pairs}
 
 -- the numbers that are done, and then those to come
 abbrev pub after : List ℕ → Option (List ℕ) → Option (List ℕ)
 after done o = option_map (λ ns. done ++ ns) o
 
-pub after_none : (o : Option (List ℕ)) → o ≡ after [] o
-after_none None = refl
-after_none (Some ns) = refl
-
-pub after_one : (done : List ℕ) (n : ℕ) (o : Option (List ℕ)) → after done (option_map (λ ns. n ∷ ns) o) ≡ after (done ++ n ∷ []) o
+after_one : (done : List ℕ) (n : ℕ) (o : Option (List ℕ)) → after done (option_map (λ ns. n ∷ ns) o) ≡ after (done ++ n ∷ []) o
 after_one done n None = refl
 after_one done n (Some ns) = ap (λ l. Some l) (sym (append_assoc done (n ∷ []) ns))
 
 pub number_turn : (done f : List ℕ) (fs : List (List ℕ)) (n : ℕ) → number_of f ≡ Some n → after done (numbers_of (f ∷ fs)) ≡ after (done ++ n ∷ []) (numbers_of fs)
 number_turn done f fs n e = ap (λ o. after done (and_then o (λ m. option_map (λ ns. m ∷ ns) (numbers_of fs)))) e ∙ after_one done n (numbers_of fs)
 
-pub number_stop : (f : List ℕ) (fs : List (List ℕ)) → number_of f ≡ None → numbers_of (f ∷ fs) ≡ None
-number_stop f fs e = ap (λ o. and_then o (λ m. option_map (λ ns. m ∷ ns) (numbers_of fs))) e
-
 -- the first pair, and those after it
-pub pairs_turn : (ns : List ℕ) → 2 ≤ length ns → pairs ns ≡ record { unit = get_or ns 0 0; kwh = get_or ns 1 0 } ∷ pairs (drop 2 ns)
+pairs_turn : (ns : List ℕ) → 2 ≤ length ns → pairs ns ≡ record { unit = get_or ns 0 0; kwh = get_or ns 1 0 } ∷ pairs (drop 2 ns)
 pairs_turn [] l = absurd (omega arith)
 pairs_turn (u ∷ []) l = absurd (omega arith)
 pairs_turn (u ∷ k ∷ ns) l = refl
@@ -41,19 +30,3 @@ pairs_again whole rest done more e l m =
     ∙ sym (append_assoc done (record { unit = get_or rest 0 0; kwh = get_or rest 1 0 } ∷ []) (pairs (drop 2 rest)))
     ∙ ap (λ rs. rs ++ pairs (drop 2 rest)) (sym m)
     ∙ ap (λ ns. more ++ pairs ns) (sym (take_rest rest 2))
-
--- a line by the places of its numbers
-pub lined_at : (ns : List ℕ) → 4 ≤ length ns → lined ns ≡ option_map (λ l. Line (get_or ns 0 0) (get_or ns 1 0) (get_or ns 3 0) l) (line_of (get_or ns 2 0) (drop 4 ns))
-lined_at [] l = absurd (omega arith)
-lined_at (u ∷ []) l = absurd (omega arith)
-lined_at (u ∷ h ∷ []) l = absurd (omega arith)
-lined_at (u ∷ h ∷ k ∷ []) l = absurd (omega arith)
-lined_at (u ∷ h ∷ k ∷ f ∷ ns) l = refl
-
--- the rule of a line, by two tests
-pub settled_by : (line : List ℕ) (running largest : Bool) → running ≡ bytes_eq line (codes "settle running") → largest ≡ bytes_eq line (codes "settle largest") → cond running (Some Running) (cond largest (Some Largest) None) ≡ settled line
-settled_by line running largest e f = ap (λ b. cond b (Some Running) (cond largest (Some Largest) None)) e ∙ ap (λ b. cond (bytes_eq line (codes "settle running")) (Some Running) (cond b (Some Largest) None)) f
-
--- the readings of a shedding
-pub readings_shed : (st : Step) (ns : List ℕ) (p k s z n : ℕ) → st ≡ Shed p k s z n → pairs (take (length ns - 5) (drop 5 ns)) ≡ readings_of st ns
-readings_shed st ns p k s z n e = ap pairs (take_rest ns 5) ∙ sym (ap (λ x. readings_of x ns) e)

@@ -1,36 +1,30 @@
 -- The lines of a script, one after the other.
 use Rattle.std.proofs.Common.{◌≡◌, ℕ, ◌+◌, ◌<◌, List, [], ◌∷◌, ◌++◌, length, Some, None, Ok, Err, Option, Result, sym, refl, ap, ◌∙◌, append_assoc, append-nil, arith, length-append, Bor}
 use Rattle.std.specs.List.{join_with_byte}
+use Rattle.std.specs.Option.{unwrap_or}
+use Rattle.prorating.specs.declared.built_in.BuiltIn.{BuiltIn}
 use Rattle.words.specs.Words.{split, following}
 use Rattle.words.proofs.Pieces.{first_piece, rejoined_split}
+use Rattle.month.specs.Meant.{Meant}
 use Rattle.script.specs.declared.fault.Fault.{Fault}
 use Rattle.script.specs.declared.fault.Fault.TheVariants.{NoCall}
-use Rattle.payers.specs.declared.readings.Reading.{Reading}
-use Rattle.script.specs.declared.step.Step.{Step}
-use Rattle.script.specs.Calls.{Meant, brings, calls_of}
 use Rattle.script.specs.Lines.{said_of}
-use Rattle.script.specs.Scripts.{whole_lines, lines_of, text_after, onto, on_line, calls_from}
-use Rattle.script.proofs.Only.{said_only}
-use Rattle.script.proofs.Pools.{needed, needed_more, calls_more}
+use Rattle.script.specs.Scripts.{whole_lines, lines_of, onto, on_line, calls_from}
 
 -- the calls that are done, and then those to come
-abbrev pub after : List Meant → Result (List Meant) Fault → Result (List Meant) Fault
+abbrev pub after : List (Meant BuiltIn) → Result (List (Meant BuiltIn)) Fault → Result (List (Meant BuiltIn)) Fault
 after done (Ok xs) = Ok (done ++ xs)
 after done (Err e) = Err e
 
-pub after_none : (r : Result (List Meant) Fault) → r ≡ after [] r
-after_none (Ok xs) = refl
-after_none (Err e) = refl
-
-after_one : (done : List Meant) (x : Meant) (r : Result (List Meant) Fault) → after done (onto x r) ≡ after (done ++ x ∷ []) r
+after_one : (done : List (Meant BuiltIn)) (x : Meant BuiltIn) (r : Result (List (Meant BuiltIn)) Fault) → after done (onto x r) ≡ after (done ++ x ∷ []) r
 after_one done x (Ok xs) = ap (λ l. Ok l) (sym (append_assoc done (x ∷ []) xs))
 after_one done x (Err e) = refl
 
 -- a line that is a call, and one that is none
-pub line_good : (done : List Meant) (k : ℕ) (l : List ℕ) (ls : List (List ℕ)) (x : Meant) → said_of l ≡ Some x → after done (calls_from k (l ∷ ls)) ≡ after (done ++ x ∷ []) (calls_from (k + 1) ls)
+line_good : (done : List (Meant BuiltIn)) (k : ℕ) (l : List ℕ) (ls : List (List ℕ)) (x : Meant BuiltIn) → said_of l ≡ Some x → after done (calls_from k (l ∷ ls)) ≡ after (done ++ x ∷ []) (calls_from (k + 1) ls)
 line_good done k l ls x e = ap (λ o. after done (on_line k o (calls_from (k + 1) ls))) e ∙ after_one done x (calls_from (k + 1) ls)
 
-pub line_bad : (done : List Meant) (k : ℕ) (l : List ℕ) (ls : List (List ℕ)) → said_of l ≡ None → after done (calls_from k (l ∷ ls)) ≡ Err (NoCall k)
+pub line_bad : (done : List (Meant BuiltIn)) (k : ℕ) (l : List ℕ) (ls : List (List ℕ)) → said_of l ≡ None → after done (calls_from k (l ∷ ls)) ≡ Err (NoCall k)
 line_bad done k l ls e = ap (λ o. after done (on_line k o (calls_from (k + 1) ls))) e
 
 -- the text is its first line, and after a line end what follows
@@ -45,6 +39,15 @@ some_line : (front : List ℕ) → 0 < length front → whole_lines (front ∷ [
 some_line [] l = absurd (omega arith)
 some_line (c ∷ front) l = refl
 
+-- what follows a line end, and nothing where there is none
+abbrev pub text_after : Option (Bor (List ℕ)) → List ℕ
+text_after None = []
+text_after (Some s) = s.now
+
+pub after_end : (o : Option (Bor (List ℕ))) (r d : Bor (List ℕ)) → r ≡ unwrap_or o d → d.now ≡ [] → r.now ≡ text_after o
+after_end None r d e n = ap (λ b. b.now) e ∙ n
+after_end (Some s) r d e n = ap (λ b. b.now) e
+
 -- where a text is cut at its first line end, the rest is shorter, and has the other lines
 pub lines_turn : (s front : List ℕ) (o : Option (Bor (List ℕ))) → 0 < length s → front ∷ following 10 o ≡ split 10 s → (lines_of s ≡ front ∷ lines_of (text_after o)) × (length (text_after o) < length s)
 lines_turn s front None l h =
@@ -56,19 +59,14 @@ lines_turn s front (Some m) l h =
     (ap whole_lines (sym h ∙ ap (λ ps. front ∷ ps) p.2) ∙ ap (λ ps. front ∷ whole_lines ps) (sym p.2), omega (arith, long))
 
 -- a line more
-pub script_turn : (whole : Result (List Meant) Fault) (ss more : List Step) (pool filled : List Reading) (k : ℕ) (text line rest : List ℕ) (x : Meant) → needed ss ≡ length pool → whole ≡ after (calls_of ss pool) (calls_from (k + 1) (lines_of text)) → lines_of text ≡ line ∷ lines_of rest → said_of line ≡ Some x → more ≡ ss ++ x.0 ∷ [] → filled ≡ pool ++ x.1 → (needed more ≡ length filled) × (whole ≡ after (calls_of more filled) (calls_from (k + 1 + 1) (lines_of rest)))
-script_turn whole ss more pool filled k text line rest x n w l e m f =
-    let sized = (said_only line x e).sized in (
-      ap needed m ∙ needed_more ss x.0 ∙ (let h : needed ss + brings x.0 ≡ length pool + length x.1 = omega arith in h) ∙ sym (length-append pool x.1) ∙ ap length (sym f),
-      w
-          ∙ ap (λ ls. after (calls_of ss pool) (calls_from (k + 1) ls)) l
-          ∙ line_good (calls_of ss pool) (k + 1) line (lines_of rest) x e
-          ∙ ap (λ xs. after xs (calls_from (k + 1 + 1) (lines_of rest))) (sym (calls_more ss pool x.0 x.1 n sized))
-          ∙ ap (λ ts. after (calls_of ts (pool ++ x.1)) (calls_from (k + 1 + 1) (lines_of rest))) (sym m)
-          ∙ ap (λ qs. after (calls_of more qs) (calls_from (k + 1 + 1) (lines_of rest))) (sym f),
-    )
+pub script_turn : (whole : Result (List (Meant BuiltIn)) Fault) (done more : List (Meant BuiltIn)) (k next : ℕ) (text front tail rest : List ℕ) (x : Meant BuiltIn) → whole ≡ after done (calls_from k (lines_of text)) → lines_of text ≡ front ∷ lines_of tail → said_of front ≡ Some x → more ≡ done ++ x ∷ [] → next ≡ k + 1 → rest ≡ tail → whole ≡ after more (calls_from next (lines_of rest))
+script_turn whole done more k next text front tail rest x w l e m n r =
+    w
+    ∙ ap (λ ls. after done (calls_from k ls)) l
+    ∙ line_good done k front (lines_of tail) x e
+    ∙ sym (ap (λ xs. after xs (calls_from next (lines_of rest))) m ∙ ap (λ j. after (done ++ x ∷ []) (calls_from j (lines_of rest))) n ∙ ap (λ t. after (done ++ x ∷ []) (calls_from (k + 1) (lines_of t))) r)
 
 -- no line more
-pub script_end : (whole : Result (List Meant) Fault) (done : List Meant) (k : ℕ) (text : List ℕ) → whole ≡ after done (calls_from k (lines_of text)) → length text ≡ 0 → whole ≡ Ok done
+pub script_end : (whole : Result (List (Meant BuiltIn)) Fault) (done : List (Meant BuiltIn)) (k : ℕ) (text : List ℕ) → whole ≡ after done (calls_from k (lines_of text)) → length text ≡ 0 → whole ≡ Ok done
 script_end whole done k [] w e = w ∙ ap (λ l. Ok l) (append-nil done)
 script_end whole done k (c ∷ text) w e = absurd (omega arith)

@@ -1,5 +1,5 @@
 -- The call that a line says.
-use Rattle.std.specs.Prelude.{ℕ, ◌/◌, ◌%◌, cond, ◌&&◌, List, [], ◌∷◌, length, drop, Some, None, codes, Option, ◌==◌}
+use Rattle.std.specs.Prelude.{ℕ, ◌/◌, ◌%◌, cond, ◌&&◌, List, [], ◌∷◌, length, Some, None, codes, Option, ◌==◌}
 use Rattle.std.specs.Option.{option_map}
 use Rattle.std.specs.Str.{bytes_eq}
 use Rattle.payers.specs.declared.readings.Reading.{Reading}
@@ -8,11 +8,10 @@ use Rattle.prorating.specs.declared.built_in.BuiltIn.TheVariants.{Running, Large
 use Rattle.worth.specs.declared.line.Line.{Line}
 use Rattle.worth.specs.declared.line.Line.TheVariants.{UpwardAvailability, UpwardActivation, Downward, OverCost, Opportunity, ExtraFuel, ExtraResource, ExtraWithdrawal}
 use Rattle.words.specs.Words.{number_of, split}
-use Rattle.script.specs.declared.step.Step.{Step}
-use Rattle.script.specs.declared.step.Step.TheVariants as step
+use Rattle.month.specs.declared.calls.StageCall.TheVariants.{Open, Settle, Reopen, Confirm}
+use Rattle.month.specs.Meant.{Meant, post, stage, company, replace, unit, performance, line, installation, meter, point, shed}
 use Rattle.script.specs.declared.word.Word.{Word}
 use Rattle.script.specs.declared.word.Word.TheVariants as word
-use Rattle.script.specs.Calls.{Meant}
 use Rattle.script.specs.Words.{word_of}
 
 -- what comes next, if there is something to go on with
@@ -76,36 +75,12 @@ abbrev pub line_of : ℕ → List ℕ → Option Line
 line_of kind figures = or_else (low_kind kind figures) (high_kind kind figures)
 
 -- an hourly line: its unit, hour, kind and family, and then the figures of the kind
-abbrev pub lined : List ℕ → Option Step
+abbrev pub lined : List ℕ → Option (Meant BuiltIn)
 lined [] = None
 lined (u ∷ []) = None
 lined (u ∷ h ∷ []) = None
 lined (u ∷ h ∷ k ∷ []) = None
-lined (u ∷ h ∷ k ∷ f ∷ figures) = option_map (λ l. step.Line u h f l) (line_of k figures)
-
--- a shedding: its point, kW, seconds and zone, and then the count of the pairs that follow
-abbrev pub shed_of : List ℕ → Option Step
-shed_of [] = None
-shed_of (p ∷ []) = None
-shed_of (p ∷ k ∷ []) = None
-shed_of (p ∷ k ∷ s ∷ []) = None
-shed_of (p ∷ k ∷ s ∷ z ∷ []) = None
-shed_of (p ∷ k ∷ s ∷ z ∷ n ∷ ns) = cond (length ns % 2 == 0 && length ns / 2 == n) (Some (step.Shed p k s z n)) None
-
--- the words that take a fixed count of numbers
-abbrev pub plain_of : Word → List ℕ → Option Step
-plain_of word.Open ns = five (λ p h c n s. step.Open (record { period = p; hours = h; failure_cost = c; count = n; seconds = s })) ns
-plain_of word.Company ns = one step.Company ns
-plain_of word.Replace ns = two step.Replace ns
-plain_of word.Unit ns = three step.Unit ns
-plain_of word.Performance ns = four (λ u f n a. step.Performance u f (record { unavailable = n; activation = a })) ns
-plain_of word.Line ns = None
-plain_of word.Installation ns = four step.Installation ns
-plain_of word.Meter ns = three step.Meter ns
-plain_of word.Point ns = two step.Point ns
-plain_of word.Shed ns = None
-plain_of word.Reopen ns = none step.Reopen ns
-plain_of word.Confirm ns = none step.Confirm ns
+lined (u ∷ h ∷ k ∷ f ∷ figures) = option_map (λ l. post (line u h f l)) (line_of k figures)
 
 -- each two numbers are a unit and its kWh
 abbrev pub pairs : List ℕ → List Reading
@@ -113,58 +88,77 @@ pairs [] = []
 pairs (u ∷ []) = []
 pairs (u ∷ k ∷ ns) = record { unit = u; kwh = k } ∷ pairs ns
 
--- the step of a word with these numbers
-abbrev pub step_of : Word → List ℕ → Option Step
-step_of word.Open ns = plain_of word.Open ns
-step_of word.Company ns = plain_of word.Company ns
-step_of word.Replace ns = plain_of word.Replace ns
-step_of word.Unit ns = plain_of word.Unit ns
-step_of word.Performance ns = plain_of word.Performance ns
-step_of word.Line ns = lined ns
-step_of word.Installation ns = plain_of word.Installation ns
-step_of word.Meter ns = plain_of word.Meter ns
-step_of word.Point ns = plain_of word.Point ns
-step_of word.Shed ns = shed_of ns
-step_of word.Reopen ns = plain_of word.Reopen ns
-step_of word.Confirm ns = plain_of word.Confirm ns
+-- a shedding: its point, kW, seconds and zone, and then the count of the pairs that follow
+abbrev pub shed_of : List ℕ → Option (Meant BuiltIn)
+shed_of [] = None
+shed_of (p ∷ []) = None
+shed_of (p ∷ k ∷ []) = None
+shed_of (p ∷ k ∷ s ∷ []) = None
+shed_of (p ∷ k ∷ s ∷ z ∷ []) = None
+shed_of (p ∷ k ∷ s ∷ z ∷ n ∷ ns) = cond (length ns % 2 == 0 && length ns / 2 == n) (Some (post (shed p k s z (pairs ns)))) None
 
--- the readings that the numbers of a step give
-abbrev pub readings_of : Step → List ℕ → List Reading
-readings_of (step.Open t) ns = []
-readings_of (step.Company n) ns = []
-readings_of (step.Replace o n) ns = []
-readings_of (step.Unit n o z) ns = []
-readings_of (step.Performance u f p) ns = []
-readings_of (step.Line u h f l) ns = []
-readings_of (step.Installation u f a m) ns = []
-readings_of (step.Meter c w i) ns = []
-readings_of (step.Point n s) ns = []
-readings_of (step.Shed p k s z n) ns = pairs (drop 5 ns)
-readings_of (step.Settle r) ns = []
-readings_of step.Reopen ns = []
-readings_of step.Confirm ns = []
+-- the words that post a fixed count of numbers
+abbrev pub posted : Word → List ℕ → Option (Meant BuiltIn)
+posted word.Open ns = None
+posted word.Company ns = one (λ n. post (company n)) ns
+posted word.Replace ns = two (λ o n. post (replace o n)) ns
+posted word.Unit ns = three (λ n o z. post (unit n o z)) ns
+posted word.Performance ns = four (λ u f n a. post (performance u f (record { unavailable = n; activation = a }))) ns
+posted word.Line ns = None
+posted word.Installation ns = four (λ u f a m. post (installation u f a m)) ns
+posted word.Meter ns = three (λ c w i. post (meter c w i)) ns
+posted word.Point ns = two (λ n s. post (point n s)) ns
+posted word.Shed ns = None
+posted word.Reopen ns = None
+posted word.Confirm ns = None
+
+-- the words that move the stage
+abbrev pub staged : Word → List ℕ → Option (Meant BuiltIn)
+staged word.Open ns = five (λ p h c n s. stage (Open (record { period = p; hours = h; failure_cost = c; count = n; seconds = s }))) ns
+staged word.Company ns = None
+staged word.Replace ns = None
+staged word.Unit ns = None
+staged word.Performance ns = None
+staged word.Line ns = None
+staged word.Installation ns = None
+staged word.Meter ns = None
+staged word.Point ns = None
+staged word.Shed ns = None
+staged word.Reopen ns = none (stage Reopen) ns
+staged word.Confirm ns = none (stage Confirm) ns
+
+-- the call of a word with these numbers
+abbrev pub call_of : Word → List ℕ → Option (Meant BuiltIn)
+call_of word.Open ns = staged word.Open ns
+call_of word.Company ns = posted word.Company ns
+call_of word.Replace ns = posted word.Replace ns
+call_of word.Unit ns = posted word.Unit ns
+call_of word.Performance ns = posted word.Performance ns
+call_of word.Line ns = lined ns
+call_of word.Installation ns = posted word.Installation ns
+call_of word.Meter ns = posted word.Meter ns
+call_of word.Point ns = posted word.Point ns
+call_of word.Shed ns = shed_of ns
+call_of word.Reopen ns = staged word.Reopen ns
+call_of word.Confirm ns = staged word.Confirm ns
 
 -- the rule that a line settles by, if it is such a line
 abbrev pub settled : List ℕ → Option BuiltIn
-settled line = cond (bytes_eq line (codes "settle running")) (Some Running) (cond (bytes_eq line (codes "settle largest")) (Some Largest) None)
+settled text = cond (bytes_eq text (codes "settle running")) (Some Running) (cond (bytes_eq text (codes "settle largest")) (Some Largest) None)
 
--- what a step with its numbers says
-abbrev pub with_readings : List ℕ → Option Step → Option Meant
-with_readings ns o = option_map (λ s. (s, readings_of s ns)) o
-
-abbrev pub on_word : Option Word → List (List ℕ) → Option Meant
+abbrev pub on_word : Option Word → List (List ℕ) → Option (Meant BuiltIn)
 on_word None fs = None
-on_word (Some w) fs = and_then (numbers_of fs) (λ ns. with_readings ns (step_of w ns))
+on_word (Some w) fs = and_then (numbers_of fs) (call_of w)
 
--- what fields say of which the first is a word, and the others are numbers
-abbrev pub by_word : List (List ℕ) → Option Meant
+-- the call of fields of which the first is a word, and the others are numbers
+abbrev pub by_word : List (List ℕ) → Option (Meant BuiltIn)
 by_word [] = None
 by_word (f ∷ fs) = on_word (word_of f) fs
 
--- what a line says, if it says a call
-abbrev pub said_by : Option BuiltIn → List ℕ → Option Meant
-said_by (Some rule) line = Some (step.Settle rule, [])
-said_by None line = by_word (split 32 line)
+-- the call that a line says, if it says one
+abbrev pub said_by : Option BuiltIn → List ℕ → Option (Meant BuiltIn)
+said_by (Some rule) text = Some (stage (Settle rule))
+said_by None text = by_word (split 32 text)
 
-abbrev pub said_of : List ℕ → Option Meant
-said_of line = said_by (settled line) line
+abbrev pub said_of : List ℕ → Option (Meant BuiltIn)
+said_of text = said_by (settled text) text

@@ -28,10 +28,10 @@ pub mod line;
 mod number;
 pub mod payments;
 pub mod reader;
-pub mod step;
 mod word;
 
 pub use fault::Fault;
+pub use line::Said;
 pub use payments::{lines_of_calls, payments_rule};
 pub use reader::{Script, read};
 

@@ -2,30 +2,21 @@
 ghost use Rattle.std.specs.Prelude.{◌≡◌};
 ghost use Rattle.script.specs.Payments.{without_end as without_end_of, is_last as is_last_of, payments_rule as payments_rule_of, names_rule as names_rule_of, lines_of_calls as lines_of_calls_of};
 
-use crate::word::is_text;
 use prorating::built_in::BuiltIn;
 
 // The bytes without the line end at their end.
 fn without_end(bytes: &[u8]) -> &[u8]
     ensures { result.now ≡ without_end_of bytes.now }
 {
-    let end = bytes.len();
-    if end > 0 && bytes[end - 1] == b'\n' {
-        &bytes[0..end - 1]
-    } else {
-        bytes
-    }
+    bytes.strip_suffix(b"\n").unwrap_or(bytes)
 }
 
 // Whether this is the last line of a text.
 fn is_last(text: &[u8], line: &[u8]) -> bool
     ensures { result ≡ is_last_of text.now line.now }
 {
-    if text.len() < line.len() {
-        return false;
-    }
-    let start = text.len() - line.len();
-    is_text(&text[start..], line) && (start == 0 || text[start - 1] == b'\n')
+    text.strip_suffix(line)
+        .is_some_and(|before| before.is_empty() || before.ends_with(b"\n"))
 }
 
 // The rule of the payments: running, where the last line does not say another.
@@ -55,5 +46,6 @@ pub fn lines_of_calls(bytes: &[u8]) -> &[u8]
         return bytes;
     }
     let text = without_end(bytes);
+    // each of the two lines has 16 bytes
     &text[0..text.len() - 16]
 }

@@ -34,7 +34,7 @@ fn lines_are_read_or_refused(rt: HostRuntime) -> Result<(), Fail> {
     ];
     for (bytes, expected) in cases {
         let found = match read(rt.alloc(), bytes) {
-            Ok(script) => Ok(script.calls(rt.alloc())?.len()),
+            Ok(script) => Ok(script.calls().len()),
             Err(fault) => Err(fault),
         };
         assert_eq!(rt; found, expected);
@@ -62,7 +62,7 @@ fn every_word_is_read(rt: HostRuntime) -> Result<(), Fail> {
     let Ok(script) = read(rt.alloc(), WORDS) else {
         return Err(Fail::new("the script was not read"));
     };
-    let calls = script.calls(rt.alloc())?;
+    let calls = script.calls();
     assert_eq!(rt; calls.len(), 13);
     let Call::Stage(StageCall::Open(terms)) = calls[0] else {
         return Err(Fail::new("no opening"));
@@ -81,13 +81,13 @@ fn every_word_is_read(rt: HostRuntime) -> Result<(), Fail> {
         return Err(Fail::new("no line of kind 3"));
     };
     assert_eq!(rt; seconds, 19);
-    let Call::Post(Post::Shed { zone, readings, .. }) = calls[10] else {
+    let Call::Post(Post::Shed { zone, readings, .. }) = &calls[10] else {
         return Err(Fail::new("no shedding"));
     };
-    let [reading] = readings else {
+    let [reading] = readings.as_slice() else {
         return Err(Fail::new("not one reading"));
     };
-    assert_eq!(rt; (zone, reading.unit, reading.kwh), (39, 40, 41));
+    assert_eq!(rt; (*zone, reading.unit, reading.kwh), (39, 40, 41));
     let Call::Stage(StageCall::Settle(BuiltIn::Largest)) = calls[11] else {
         return Err(Fail::new("no settling"));
     };

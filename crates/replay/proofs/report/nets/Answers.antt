@@ -1,18 +1,18 @@
--- A turn takes one company from what is left to what is done.
-use Rattle.std.proofs.Common.{◌+◌, ◌++◌, vec_items, sym, ap, ◌∙◌, append-nil, arith}
-use Rattle.std.proofs.lemmas.List.{at_drop_more, at_drop_all}
+-- The chain goes over the companies in order.
+use Rattle.std.proofs.Common.{◌≡◌, length, vec_items, refl, ap, ◌∙◌, rules, tests}
+use Rattle.std.specs.List.{zip, range_with_len, filter_map}
+use Rattle.std.proofs.lemmas.Iterator.{items_from_collect, YieldsList-from_slice, YieldsList-from_range, YieldsList-from_zip}
+use Rattle.std.proofs.lemmas.Iterator.Consumers.{YieldsList-from_filter_map}
+use Rattle.std.proofs.lemmas.Result.{IfOk-weaker}
 use Rattle.replay.specs.Reports.{nets_from}
-use Rattle.replay.proofs.Steps.{again}
+use Rattle.replay.proofs.Steps.{net, nets_made}
 use Rattle.replay.proofs.report.nets.Goals as goal
-
-pub loop-k-preserved : goal.loop-k-preserved
-loop-k-preserved c =
-    again (nets_from 1 c.args.figures.now) (vec_items c.loop-k.list) (vec_items c.add_net.new.list) _ _
-    (c.loop-k.invariant ∙ ap (λ l. vec_items c.loop-k.list ++ l) (at_drop_more (nets_from (c.loop-k.k + 1)) c.args.figures.now c.loop-k.k _ (omega arith)))
-    c.in_ok-add_net.ensures
 
 pub returns : goal.returns
 returns c =
-    sym (c.loop-k.invariant
-    ∙ ap (λ l. vec_items c.loop-k.list ++ l) (at_drop_all (nets_from (c.loop-k.k + 1)) c.args.figures.now c.loop-k.k (omega arith))
-    ∙ append-nil (vec_items c.loop-k.list))
+    let fs = c.args.figures.now in
+    let long : 32 ≡ length fs = search rules in
+    let items =
+    items_from_collect c.collect.result c.collect.ensures.ran
+    (YieldsList-from_filter_map _ net (YieldsList-from_zip (YieldsList-from_range 1 33 32 (cc) refl) (YieldsList-from_slice fs (cc))) c.filter_map.ensures.closure (λ x r q k. search (rules, tests))) in
+    IfOk-weaker c.collect.result _ (λ v. vec_items v ≡ nets_from 1 fs) (λ v e. e ∙ ap (λ n. filter_map net (zip (range_with_len 1 n) fs)) long ∙ nets_made 1 fs) items

@@ -1,8 +1,0 @@
--- Two tests of the same fact have one answer.
-use Rattle.std.proofs.lemmas.Slice.Eq.{slice_eq-Decides, bytes_eq-Decides}
-use Rattle.std.proofs.lemmas.Bool.Decides.{same_from_decides, Decides-eqb}
-use Rattle.script.proofs.word.is_text.Goals as goal
-
-pub returns : goal.returns
-returns c =
-    same_from_decides _ _ (slice_eq-Decides Decides-eqb c.args.text.now c.args.bytes.now _ c.eq.ensures) (bytes_eq-Decides c.args.text.now c.args.bytes.now)
