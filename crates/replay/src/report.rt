@@ -57,7 +57,7 @@ impl fmt::Display for Refused {
     ghost output = { λ refused. Some (refused_text refused) };
 
     fn fmt<W: fmt::Write>(&self, f: &mut fmt::Formatter<W>) -> fmt::Result {
-        let number = self.0.number();
+        let number = u8::from(self.0);
         write!(f, "refused {number}")
     }
 }

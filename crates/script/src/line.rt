@@ -13,7 +13,7 @@ use payers::readings::Reading;
 use prorating::built_in::BuiltIn;
 use std::alloc::{AllocError, Global};
 use words::cut;
-use worth::{Line, Performance};
+use worth::{Installation, Line, Performance, Shedding};
 
 // A call of a script: a shedding owns its readings, and a month is settled by a built-in rule.
 pub type Said = Call<Vec<Reading>, BuiltIn>;
@@ -114,8 +114,7 @@ fn shed(heap: Global, numbers: &[u64]) -> Result<Option<Said>, AllocError>
     let readings = paired(heap, pairs)?;
     Ok(Some(Call::Post(Post::Shed {
         point,
-        kw,
-        seconds,
+        shedding: Shedding { kw, seconds },
         zone,
         readings,
     })))
@@ -144,8 +143,10 @@ fn post(word: Word, numbers: &[u64]) -> Option<Said>
         (Word::Installation, &[unit, family, annuity, maintenance]) => Post::Installation {
             unit,
             family,
-            annuity,
-            maintenance,
+            installation: Installation {
+                annuity,
+                maintenance,
+            },
         },
         (Word::Meter, &[company, withdrawals, injections]) => Post::Meter {
             company,
