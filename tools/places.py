@@ -13,18 +13,22 @@ ONLY = sys.argv[2] if len(sys.argv) > 2 else None
 TESTS = {"tests.rt", "zone_tests.rt", "suspension.rt"}
 FILES = sorted(f for f in (FOLDER / "crates").glob("*/src/**/*.rt") if f.name not in TESTS)
 
+# A pattern is sought in each line with the line after it, joined by a space, outside comments.
 PATTERNS = {
     "1 a number for a kind or a refusal, made by a function": r"fn (number|numbered|kind|refusal_number)\((&self|number: u64|refusal)",
-    "1 an Option or Result taken apart by hand": r"^\s*(None|Some\(_\)|Err\((_|[a-z]+)\)) => |let (None|Some\(.*\)) = .* else \{|if let Some\(_\)|if let (Some|Ok)\([a-z]+\) = .*\{$",
-    "1 a stage told by a flag": r"if !self\.is_open\(\)",
-    "1 a number for a family or a service": r"^(?!.*//).*\b(family|service): u64",
-    "3 a loop that counts an index": r"for [a-z_]+ in \d|for [a-z_]+ in .*\.\.|\.enumerate\(\)|k as u64 \+ 1",
-    "3 a loop that a method does": r"^\s*(for (?!.*enumerate)(?!.*\.\.)|while )",
-    "4 a conversion or printing written by hand": r"^impl.* (From<.*>|TryFrom<.*>|fmt::Display) for |fn (number|numbered)\((&self|number: u64)|println!\(rt; \"\{.*\{",
-    "6 a buffer with a length, or an arena": r"^\s*count: usize|^\s*pool: ",
-    "6 parallel arrays": r"^\s*(pub )?(floors|remainders|withdrawals|injections|debts|dues): \[",
+    "1 a number for a family or a service": r"\b(family|service): u64",
+    "1 an arm for None or Err that a method or ? writes": r"^(None => (0|false|true|None|b\"\"|unreachable|\[0; |Point \{|high_kind)|Some\(_\) => |Err\(_\) => (unreachable|true|false|None|Err)|Err\(refusal\) => (Err|refusal\.number))",
+    "1 a let or if for None or Err that a method or ? writes": r"^let Some\([a-z_]+\) = .* else \{ return (Err|None|0)|^let None = |^(if let|let) Some\(_\)",
+    "1 a stage told by a flag": r"^if !self\.is_open\(\)",
+    "3 a loop over the numbers of indices": r"^for [a-z_]+ in [\w.]+\.\.",
+    "3 a loop that counts beside its items": r"^for \(\w+, \w+\) in .*\.enumerate\(\)|^number \+= 1",
+    "3 a loop over items that a method does": r"^for \w+ in \w+ \{ (if .*|let None = .*)$",
+    "4 a conversion written by hand": r"fn (number|numbered)\((&self|number: u64)|^impl.* From<.*> for (Failure|Fault) ",
+    "4 printing written by hand": r"println!\(rt; \"(\{|total \{).*\{|^impl fmt::Display for Failure",
+    "6 a buffer with a length, or an arena": r"^count: usize,|^pool: Vec",
+    "6 parallel arrays": r"^(pub )?(floors|withdrawals|debts): \[u64; \w+\],",
     "6 a list searched by hand": r"fn find\(|fn find_word\(",
-    "7 a switch on which step to run": r"match (index|word|self|\*self|\(word, numbers\)|\*?post|call) \{",
+    "7 a switch on which step to run": r"match (index|word) \{|^fn step\(|BuiltIn::Running => ",
 }
 
 
@@ -32,19 +36,28 @@ def functions(text):
     """The name, head and body of each function."""
     for m in re.finditer(r"^( *)(?:pub(?:\([a-z]+\))? )?(?:const )?fn (\w+)", text, re.M):
         indent = m.group(1)
-        end = re.compile(r"^" + indent + r"\}|;$|\{\}$", re.M).search(text, m.end())
-        if not end:
+        brace = re.compile(r"^" + indent + r"\{|\{$|\{\}$|;$", re.M).search(text, m.end())
+        if not brace:
             continue
-        whole = text[m.start():end.end()]
-        brace = re.search(r"^" + indent + r"\{|\{$", whole, re.M)
-        head = whole[:brace.start()] if brace else whole
-        yield m.group(2), head, whole[len(head):]
+        end = re.compile(r"^" + indent + r"\}", re.M).search(text, brace.end())
+        bare = brace.group() in (";", "{}") or not end
+        yield m.group(2), text[m.start():brace.start()], "" if bare else text[brace.start():end.end()]
+
+
+KEYWORDS = set("as break else false for if in let loop match mut ref return self true while".split())
 
 
 def shape(body):
+    """The text without comments, with types, constants and numbers as N, and names of values by the order in which they come."""
     body = re.sub(r"//.*", "", body)
     body = re.sub(r"\b[A-Z]\w*(::[A-Z]\w*)*\b|\b\d[\d_]*\b", "N", body)
-    body = re.sub(r"\b(self\.)?[a-z_]+(?=\s*(<=|>=|<|>)\s*N)", "v", body)
+    names = {}
+
+    def numbered(m):
+        word = m.group()
+        return word if word in KEYWORDS else names.setdefault(word, f"v{len(names)}")
+
+    body = re.sub(r"(?<![.\w])[a-z_]\w*\b(?!\s*(\(|::|!))", numbered, body)
     return re.sub(r"\s+", "", body)
 
 
@@ -61,15 +74,16 @@ def main():
     for title, pattern in PATTERNS.items():
         found = []
         for f, text in texts.items():
-            for n, line in enumerate(text.splitlines(), 1):
-                if not line.lstrip().startswith("//") and re.search(pattern, line):
-                    found.append(f"{f.relative_to(FOLDER)}:{n}: {line.strip()[:100]}")
+            lines = [line.strip() for line in text.splitlines()] + [""]
+            for n, (line, after) in enumerate(zip(lines, lines[1:]), 1):
+                if not line.startswith("//") and re.search(pattern, f"{line} {after}") and not re.search(pattern, after):
+                    found.append(f"{f.relative_to(FOLDER)}:{n}: {line[:100]}")
         show(title, found)
     shapes, clauses, pairs = (collections.defaultdict(list) for _ in range(3))
     for f, text in texts.items():
         for name, head, body in functions(text):
             place = f"{f.relative_to(FOLDER)}:{name}"
-            if len(shape(body)) > 4:
+            if len(shape(body)) > 7:
                 shapes[shape(body)].append(place)
             for clause in re.findall(r"(?:ensures|requires)(?: \w+)? \{ (.*) \}$", head, re.M):
                 clauses[clause].append(place)
