@@ -26,11 +26,11 @@ pub data Meant (R : Type 0) : Type 0 where
 abbrev pub meant_post : {T : Type 0} → (T → List Reading) → Post T → Posted
 meant_post items (Post.Company n) = company n
 meant_post items (Post.Replace old new) = replace old new
-meant_post items (Post.Unit n o z) = unit n o z
+meant_post items (Post.Unit n p) = unit n p.owner p.zone
 meant_post items (Post.Performance u f p) = performance u f p
 meant_post items (Post.Line u hour f l) = line u hour f l
 meant_post items (Post.Installation u f i) = installation u f i.annuity i.maintenance
-meant_post items (Post.Meter c w i) = meter c w i
+meant_post items (Post.Meter c m) = meter c m.withdrawals m.injections
 meant_post items (Post.Point n s) = point n s
 meant_post items (Post.Shed p s z rs) = shed p s.kw s.seconds z (items rs)
 

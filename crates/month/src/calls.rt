@@ -1,4 +1,6 @@
 // The calls on a month, with any figures.
+use payers::meters::Meter;
+use tables::units::Place;
 use worth::{Installation, Line, Performance, Shedding};
 
 // The figures that a month is opened with.
@@ -23,8 +25,7 @@ pub enum Post<T> {
     },
     Unit {
         number: u64,
-        owner: u64,
-        zone: u64,
+        place: Place,
     },
     Performance {
         unit: u64,
@@ -44,8 +45,7 @@ pub enum Post<T> {
     },
     Meter {
         company: u64,
-        withdrawals: u64,
-        injections: u64,
+        meter: Meter,
     },
     Point {
         number: u64,

@@ -5,8 +5,9 @@ ghost use Rattle.worth.specs.Families.{numbered};
 
 use crate::calls::Terms;
 use crate::readings::unit_outside_in;
-use payers::meters::FIGURE_LIMIT;
+use payers::meters::Meter;
 use payers::readings::{Reading, are_readings};
+use tables::units::Place;
 use worth::{Family, HIGHEST_FAILURE_COST, Installation, Line, Performance, Shedding};
 
 // Whether a number is outside its limits.
@@ -50,10 +51,10 @@ impl Terms {
     }
 }
 
-pub(crate) fn unit_outside(number: u64, owner: u64, zone: u64) -> bool
-    ensures { result ≡ is_unit_outside number owner zone }
+pub(crate) fn unit_outside(number: u64, place: &Place) -> bool
+    ensures { result ≡ is_unit_outside number place.now.owner place.now.zone }
 {
-    outside(1, 255, number) || outside(1, 32, owner) || zone > 15
+    outside(1, 255, number) || outside(1, 32, place.owner) || place.zone > 15
 }
 
 pub(crate) fn performance_outside(
@@ -82,10 +83,10 @@ pub(crate) fn installation_outside(unit: u64, family: u64, installation: &Instal
     outside(1, 255, unit) || no_family(family) || !installation.within_limits()
 }
 
-pub(crate) fn meter_outside(company: u64, withdrawals: u64, injections: u64) -> bool
-    ensures { result ≡ is_meter_outside company withdrawals injections }
+pub(crate) fn meter_outside(company: u64, meter: &Meter) -> bool
+    ensures { result ≡ is_meter_outside company meter.now.withdrawals meter.now.injections }
 {
-    outside(1, 32, company) || withdrawals > FIGURE_LIMIT || injections > FIGURE_LIMIT
+    outside(1, 32, company) || !meter.within_limits()
 }
 
 pub(crate) fn shed_outside(point: u64, shedding: &Shedding, zone: u64, readings: &[Reading]) -> bool

@@ -12,10 +12,13 @@ figure_limit = 90_000_000
 abbrev pub Small : List ℕ → Type 0
 Small figures = (k : ℕ) → slice_index figures k ≤ figure_limit
 
+-- Whether what a company withdrew and what it injected are within the limit.
+abbrev pub are_small : ℕ → ℕ → Bool
+are_small withdrawals injections = nat_le withdrawals figure_limit && nat_le injections figure_limit
+
 -- Whether a company's figures may stand in the table.
 abbrev pub is_metered : ℕ → ℕ → ℕ → Bool
-is_metered company withdrawals injections =
-    is_company company && nat_le withdrawals figure_limit && nat_le injections figure_limit
+is_metered company withdrawals injections = is_company company && are_small withdrawals injections
 
 -- The answer where a company's figures are put into the table.
 abbrev pub put_answer : ℕ → ℕ → ℕ → Result (Unit {0}) Refusal

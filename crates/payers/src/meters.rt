@@ -1,6 +1,6 @@
 // The table of meters, and the two bases over it.
 ghost use Rattle.std.specs.Prelude.{◌≡◌, length, replicate};
-ghost use Rattle.payers.specs.Meters.{Small, is_metered as is_metered_of, put_answer, put_after};
+ghost use Rattle.payers.specs.Meters.{Small, are_small, put_answer, put_after};
 
 use crate::base::COMPANIES;
 use crate::refusal::Refusal;
@@ -9,6 +9,22 @@ use numbered::{is_numbered, set_entry};
 
 // The largest figure of a company, in MWh.
 pub const FIGURE_LIMIT: u64 = 90_000_000;
+
+// What a company withdrew and injected in the month, in MWh.
+#[derive(Clone, Copy)]
+pub struct Meter {
+    pub withdrawals: u64,
+    pub injections: u64,
+}
+
+impl Meter {
+    // Whether both figures are within their limit.
+    pub fn within_limits(&self) -> bool
+        ensures { result ≡ are_small self.now.withdrawals self.now.injections }
+    {
+        self.withdrawals <= FIGURE_LIMIT && self.injections <= FIGURE_LIMIT
+    }
+}
 
 // What each company withdrew and injected in the month, in MWh. The type keeps each figure within the limit.
 // Kept: two lists, not a list of pairs, since each of the two is a base as it stands.
@@ -34,16 +50,16 @@ impl Meters {
     }
 
     // Puts a company's figures into the table and drops those that were there.
-    pub fn put(&mut self, company: u64, withdrawals: u64, injections: u64) -> Result<(), Refusal>
-        ensures answered { result ≡ put_answer company withdrawals injections }
-        ensures withdrawn { self.new.withdrawals ≡ put_after result self.old.withdrawals company withdrawals }
-        ensures injected { self.new.injections ≡ put_after result self.old.injections company injections }
+    pub fn put(&mut self, company: u64, meter: Meter) -> Result<(), Refusal>
+        ensures answered { result ≡ put_answer company meter.withdrawals meter.injections }
+        ensures withdrawn { self.new.withdrawals ≡ put_after result self.old.withdrawals company meter.withdrawals }
+        ensures injected { self.new.injections ≡ put_after result self.old.injections company meter.injections }
     {
-        if !is_metered(company, withdrawals, injections) {
+        if !is_numbered(company, COMPANIES) || !meter.within_limits() {
             return Err(Refusal::Limits);
         }
-        set_entry(&mut self.withdrawals, company, withdrawals);
-        set_entry(&mut self.injections, company, injections);
+        set_entry(&mut self.withdrawals, company, meter.withdrawals);
+        set_entry(&mut self.injections, company, meter.injections);
         Ok(())
     }
 
@@ -64,11 +80,4 @@ impl Meters {
             at: self.injections,
         }
     }
-}
-
-// Whether a company's figures may stand in the table.
-fn is_metered(company: u64, withdrawals: u64, injections: u64) -> bool
-    ensures { result ≡ is_metered_of company withdrawals injections }
-{
-    is_numbered(company, COMPANIES) && withdrawals <= FIGURE_LIMIT && injections <= FIGURE_LIMIT
 }

@@ -1,7 +1,7 @@
 // Worked pots, charged over the meters and under replacement, and what is refused.
 use crate::base::{COMPANIES, PayerBase};
 use crate::charging::charges;
-use crate::meters::{FIGURE_LIMIT, Meters};
+use crate::meters::{FIGURE_LIMIT, Meter, Meters};
 use crate::refusal::Refusal;
 use crate::replacement::{Replacement, Replacements};
 use crate::suspension::Suspension;
@@ -10,12 +10,19 @@ use prorating::largest::Largest;
 use prorating::running::Running;
 use std::test::Fail;
 
+fn meter(withdrawals: u64, injections: u64) -> Meter {
+    Meter {
+        withdrawals,
+        injections,
+    }
+}
+
 // The meters of a month with three companies.
 fn meters(withdrawals: [u64; 3]) -> Result<Meters, Refusal> {
     let mut meters = Meters::none();
-    meters.put(1, withdrawals[0], 700)?;
-    meters.put(2, withdrawals[1], 300)?;
-    meters.put(3, withdrawals[2], 0)?;
+    meters.put(1, meter(withdrawals[0], 700))?;
+    meters.put(2, meter(withdrawals[1], 300))?;
+    meters.put(3, meter(withdrawals[2], 0))?;
     Ok(meters)
 }
 
@@ -136,7 +143,7 @@ fn installations_are_charged_to_those_who_injected(rt: HostRuntime) -> Result<()
 #[test]
 fn any_other_number_weighs_nothing(rt: HostRuntime) -> Result<(), Fail> {
     let mut meters = Meters::none();
-    meters.put(32, 5, 6)?;
+    meters.put(32, meter(5, 6))?;
     let mut replacements = Replacements::none();
     replacements.replace(1, 32)?;
     let replaced = Replacement::over(meters.withdrawals(), replacements);
@@ -162,11 +169,17 @@ fn weights_are_listed(rt: HostRuntime) -> Result<(), Fail> {
 #[test]
 fn refused_meters_change_nothing(rt: HostRuntime) -> Result<(), Fail> {
     let mut meters = Meters::none();
-    meters.put(32, FIGURE_LIMIT, 1)?;
-    assert_eq!(rt; meters.put(0, 1, 1), Err(Refusal::Limits));
-    assert_eq!(rt; meters.put(33, 1, 1), Err(Refusal::Limits));
-    assert_eq!(rt; meters.put(32, FIGURE_LIMIT + 1, 2), Err(Refusal::Limits));
-    assert_eq!(rt; meters.put(32, 2, FIGURE_LIMIT + 1), Err(Refusal::Limits));
+    meters.put(32, meter(FIGURE_LIMIT, 1))?;
+    assert_eq!(rt; meters.put(0, meter(1, 1)), Err(Refusal::Limits));
+    assert_eq!(rt; meters.put(33, meter(1, 1)), Err(Refusal::Limits));
+    assert_eq!(rt;
+        meters.put(32, meter(FIGURE_LIMIT + 1, 2)),
+        Err(Refusal::Limits)
+    );
+    assert_eq!(rt;
+        meters.put(32, meter(2, FIGURE_LIMIT + 1)),
+        Err(Refusal::Limits)
+    );
     assert_eq!(rt;
         (
             meters.withdrawals().weight(32),

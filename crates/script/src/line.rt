@@ -9,9 +9,11 @@ ghost use Rattle.script.specs.Lines.{low_kind, high_kind, line_of, lined, shed_o
 use crate::number::{paired, read_numbers};
 use crate::word::{Word, read_word};
 use month::calls::{Call, Post, StageCall, Terms};
+use payers::meters::Meter;
 use payers::readings::Reading;
 use prorating::built_in::BuiltIn;
 use std::alloc::{AllocError, Global};
+use tables::units::Place;
 use words::cut;
 use worth::{Installation, Line, Performance, Shedding};
 
@@ -129,8 +131,7 @@ fn post(word: Word, numbers: &[u64]) -> Option<Said>
         (Word::Replace, &[old, new]) => Post::Replace { old, new },
         (Word::Unit, &[number, owner, zone]) => Post::Unit {
             number,
-            owner,
-            zone,
+            place: Place { owner, zone },
         },
         (Word::Performance, &[unit, family, unavailable, activation]) => Post::Performance {
             unit,
@@ -150,8 +151,10 @@ fn post(word: Word, numbers: &[u64]) -> Option<Said>
         },
         (Word::Meter, &[company, withdrawals, injections]) => Post::Meter {
             company,
-            withdrawals,
-            injections,
+            meter: Meter {
+                withdrawals,
+                injections,
+            },
         },
         (Word::Point, &[number, supplier]) => Post::Point { number, supplier },
         _ => return None,

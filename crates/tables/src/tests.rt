@@ -3,9 +3,14 @@
 use crate::accounts::Accounts;
 use crate::marks::Marks;
 use crate::points::PointTable;
-use crate::units::UnitTable;
-use payers::zone::{Owners, ZoneHour};
+use crate::units::{Place, UnitTable};
+use payers::weights::CompanyWeights;
+use payers::zone::Owners;
 use worth::{Line, Performance};
+
+fn place(owner: u64, zone: u64) -> Place {
+    Place { owner, zone }
+}
 
 #[test]
 fn marks_of_the_companies_alone(rt: HostRuntime) {
@@ -30,17 +35,17 @@ fn marks_of_the_companies_alone(rt: HostRuntime) {
 fn units_up_to_the_48th(rt: HostRuntime) {
     let mut table = UnitTable::none();
     // no company's number
-    table.add(1, 0, 1);
-    table.add(1, 33, 1);
+    table.add(1, place(0, 1));
+    table.add(1, place(33, 1));
     assert!(rt; table.place(1).is_none());
     for number in 1..=48 {
         assert!(rt; !table.is_full());
-        table.add(number, 32, number);
+        table.add(number, place(32, number));
     }
     assert!(rt; table.is_full());
     // one that is there, and one too many
-    table.add(1, 7, 9);
-    table.add(49, 7, 9);
+    table.add(1, place(7, 9));
+    table.add(49, place(7, 9));
     assert!(rt; table.place(49).is_none());
     for number in 1..=48 {
         let place = table.place(number);
@@ -54,9 +59,9 @@ fn units_up_to_the_48th(rt: HostRuntime) {
 #[test]
 fn units_keep_the_first_of_a_number(rt: HostRuntime) {
     let mut table = UnitTable::none();
-    table.add(5, 1, 2);
-    table.add(5, 3, 4);
-    table.add(0, 32, u64::MAX);
+    table.add(5, place(1, 2));
+    table.add(5, place(3, 4));
+    table.add(0, place(32, u64::MAX));
     assert_eq!(rt;
         (table.owner_in(5, 2), table.owner_in(5, 4)),
         (Some(1), None)
@@ -71,8 +76,8 @@ fn units_keep_the_first_of_a_number(rt: HostRuntime) {
 #[test]
 fn performances_and_installations_by_family(rt: HostRuntime) {
     let mut table = UnitTable::none();
-    table.add(5, 1, 2);
-    table.add(6, 1, 2);
+    table.add(5, place(1, 2));
+    table.add(6, place(1, 2));
     for family in [0, 2, 3] {
         let performance = Performance {
             unavailable: family,
@@ -109,8 +114,8 @@ fn lines_by_hour_and_kind(rt: HostRuntime) {
         withdrawn_without: 3,
     };
     let mut table = UnitTable::none();
-    table.add(5, 1, 2);
-    table.add(6, 1, 2);
+    table.add(5, place(1, 2));
+    table.add(6, place(1, 2));
     table.give(6, 0, &first);
     table.give(6, 744, &last);
     // an hour of no month, and no such unit
@@ -192,18 +197,18 @@ fn credits_up_to_the_limit(rt: HostRuntime) {
 fn pots_of_sheddings_up_to_the_16th(rt: HostRuntime) {
     let mut accounts = Accounts::none();
     // nobody is credited, and nothing needs no pot
-    accounts.shed(33, 5, ZoneHour::none());
-    accounts.shed(1, 3_000_000_001, ZoneHour::none());
-    accounts.shed(1, 0, ZoneHour::none());
+    accounts.shed(33, 5, CompanyWeights::none());
+    accounts.shed(1, 3_000_000_001, CompanyWeights::none());
+    accounts.shed(1, 0, CompanyWeights::none());
     assert!(rt; accounts.shedding(0).is_none());
     for cents in 1..=16 {
         assert!(rt; !accounts.is_full());
-        accounts.shed(2, cents, ZoneHour::none());
+        accounts.shed(2, cents, CompanyWeights::none());
     }
     assert!(rt; accounts.is_full());
     // one too many, and one that needs no pot
-    accounts.shed(3, 1, ZoneHour::none());
-    accounts.shed(3, 0, ZoneHour::none());
+    accounts.shed(3, 1, CompanyWeights::none());
+    accounts.shed(3, 0, CompanyWeights::none());
     assert_eq!(rt;
         (accounts.earned(1), accounts.earned(2), accounts.earned(3)),
         (0, 136, 0)

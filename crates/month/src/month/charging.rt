@@ -22,10 +22,7 @@ impl Charges {
         ensures is { result ≡ charge_at self.now.of_pots company pot }
         ensures small { result ≤ limit }
     {
-        match index_of(pot, POTS) {
-            Some(index) => entry_of(&self.of_pots[index], company, 0),
-            None => 0,
-        }
+        index_of(pot, POTS).map_or(0, |index| entry_of(&self.of_pots[index], company, 0))
     }
 
     // What a company is charged over all pots.

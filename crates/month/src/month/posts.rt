@@ -9,6 +9,8 @@ ghost use Rattle.month.specs.Steps.{post_answer, post_after};
 use super::{Month, Stage};
 use crate::limits::{meter_outside, outside, performance_outside, unit_outside};
 use crate::refusal::Refusal;
+use payers::meters::Meter;
+use tables::units::Place;
 use worth::Performance;
 
 impl Month {
@@ -39,15 +41,15 @@ impl Month {
     }
 
     // Registers a unit.
-    pub fn unit(&mut self, number: u64, owner: u64, zone: u64) -> Result<(), Refusal>
-        ensures answer { result ≡ post_answer (book self.old) (a_unit number owner zone) }
-        ensures after { book self.new ≡ post_after (book self.old) (a_unit number owner zone) }
+    pub fn unit(&mut self, number: u64, place: Place) -> Result<(), Refusal>
+        ensures answer { result ≡ post_answer (book self.old) (a_unit number place.owner place.zone) }
+        ensures after { book self.new ≡ post_after (book self.old) (a_unit number place.owner place.zone) }
     {
         self.takes_posts()?;
-        if unit_outside(number, owner, zone) {
+        if unit_outside(number, &place) {
             return Err(Refusal::Limits);
         }
-        if !self.registered.has(owner) {
+        if !self.registered.has(place.owner) {
             return Err(Refusal::Unregistered);
         }
         if self.units.place(number).is_some() {
@@ -56,7 +58,7 @@ impl Month {
         if self.units.is_full() {
             return Err(Refusal::Full);
         }
-        self.units.add(number, owner, zone);
+        self.units.add(number, place);
         Ok(())
     }
 
@@ -100,12 +102,12 @@ impl Month {
     }
 
     // Posts what a company withdrew and injected in the month.
-    pub fn meter(&mut self, company: u64, withdrawals: u64, injections: u64) -> Result<(), Refusal>
-        ensures answer { result ≡ post_answer (book self.old) (a_meter company withdrawals injections) }
-        ensures after { book self.new ≡ post_after (book self.old) (a_meter company withdrawals injections) }
+    pub fn meter(&mut self, company: u64, meter: Meter) -> Result<(), Refusal>
+        ensures answer { result ≡ post_answer (book self.old) (a_meter company meter.withdrawals meter.injections) }
+        ensures after { book self.new ≡ post_after (book self.old) (a_meter company meter.withdrawals meter.injections) }
     {
         self.takes_posts()?;
-        if meter_outside(company, withdrawals, injections) {
+        if meter_outside(company, &meter) {
             return Err(Refusal::Limits);
         }
         if !self.registered.has(company) {
@@ -115,7 +117,7 @@ impl Month {
             return Err(Refusal::Again);
         }
         self.metered.put(company);
-        Ok(self.meters.put(company, withdrawals, injections)?)
+        Ok(self.meters.put(company, meter)?)
     }
 
     // Registers a point of withdrawal and its supplier.

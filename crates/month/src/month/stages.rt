@@ -80,11 +80,7 @@ impl Month {
         match post {
             Post::Company { number } => self.company(*number),
             Post::Replace { old, new } => self.replace(*old, *new),
-            Post::Unit {
-                number,
-                owner,
-                zone,
-            } => self.unit(*number, *owner, *zone),
+            Post::Unit { number, place } => self.unit(*number, *place),
             Post::Performance {
                 unit,
                 family,
@@ -101,11 +97,7 @@ impl Month {
                 family,
                 installation,
             } => self.installation(*unit, *family, *installation),
-            Post::Meter {
-                company,
-                withdrawals,
-                injections,
-            } => self.meter(*company, *withdrawals, *injections),
+            Post::Meter { company, meter } => self.meter(*company, *meter),
             Post::Point { number, supplier } => self.point(*number, *supplier),
             Post::Shed {
                 point,

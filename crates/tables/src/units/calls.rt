@@ -25,13 +25,13 @@ fn line_index(hour: u64, line: &Line) -> Option<usize>
 
 impl UnitRow {
     // A unit of which nothing was posted.
-    fn fresh(number: u64, owner: u64, zone: u64) -> UnitRow
-        ensures { result ≡ fresh_row number owner zone }
+    fn fresh(number: u64, place: Place) -> UnitRow
+        ensures { result ≡ fresh_row number place.owner place.zone }
     {
         UnitRow {
             number,
-            owner,
-            zone,
+            owner: place.owner,
+            zone: place.zone,
             performances: [None; FAMILIES],
             installed: [false; FAMILIES],
             given: [false; LINES],
@@ -185,11 +185,11 @@ impl UnitTable {
     }
 
     // Registers a unit; nothing where it may not be added.
-    pub fn add(&mut self, number: u64, owner: u64, zone: u64)
-        ensures { listed self.new ≡ added (listed self.old) number owner zone }
+    pub fn add(&mut self, number: u64, place: Place)
+        ensures { listed self.new ≡ added (listed self.old) number place.owner place.zone }
     {
-        if self.is_addable(number, owner) {
-            self.rows.push(UnitRow::fresh(number, owner, zone));
+        if self.is_addable(number, place.owner) {
+            self.rows.push(UnitRow::fresh(number, place));
         }
     }
 }
