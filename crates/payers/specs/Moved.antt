@@ -1,5 +1,5 @@
 -- The weights under replacement, of every base.
-use Rattle.std.specs.Prelude.{◌≡◌, ℕ, ◌-◌, ◌<◌, ◌≤◌, true, false, List, length, sum_by, sum, slice_index_or}
+use Rattle.std.specs.Prelude.{◌≡◌, ℕ, ◌+◌, ◌-◌, ◌<◌, ◌≤◌, true, false, List, length, sum_by, sum, slice_index_or}
 use Rattle.std.proofs.Math.Path.{sym, ap, subst}
 use Rattle.std.proofs.Common.{◌∙◌, arith}
 use Rattle.std.proofs.Math.Logic.{⊎_elim}
@@ -10,18 +10,28 @@ use Rattle.prorating.specs.Weights.{limit}
 use Rattle.payers.specs.Bases.{is_company, weight_of, Based}
 use Rattle.payers.specs.Replacements.{participant_of, is_replaced, is_substitute, TakesPart, part_moved, weight_moved, moved, Moves}
 use Rattle.payers.specs.CompaniesLemmas.{by_company_long, by_company_weight, by_company_sum, weights_sum}
-use Rattle.payers.specs.Runs.{sum_same, sum_zero, sum_within, only, only_there, only_elsewhere, only_small, sum_only, sum_exchange}
+use Rattle.payers.specs.Runs.{sum_same, sum_zero, sum_next, sum_within, only, only_there, only_elsewhere, only_small, sum_only, sum_exchange}
 use Rattle.payers.specs.Substitutes.{only_itself, takes_part_itself}
 
 module _ (ps ws : List ℕ) where
   pub moved_weight : (company : ℕ) → is_company company ≡ true → weight_of (moved ps ws) company ≡ weight_moved ps ws company
   moved_weight company there = by_company_weight (weight_moved ps ws) company there
 
-  -- a sum over the first companies
+  -- a sum over the first companies, with one company more
+  pub part_next : (company k : ℕ) → sum_by (part_moved ps ws company) (range_with_len 1 (k + 1)) ≡ sum_by (part_moved ps ws company) (range_with_len 1 k) + part_moved ps ws company (k + 1)
+  part_next company k = sum_next (part_moved ps ws company) 1 k (k + 1) (omega arith)
+
+  -- such a sum is at most the total
   pub part_small : length ws ≡ 32 → (company k : ℕ) → k ≤ 32 → sum_by (part_moved ps ws company) (range_with_len 1 k) ≤ sum ws
   part_small long company k few =
       subst (λ total. sum_by (part_moved ps ws company) (range_with_len 1 k) ≤ total) (weights_sum ws long)
       (sum_within (part_moved ps ws company) (weight_of ws) 1 k 32 few (λ one. only_small (participant_of ps one) (weight_of ws one) company))
+
+  -- and over all of them
+  pub part_all : (company k weight : ℕ) → is_company company ≡ true → k ≡ 32 → weight ≡ sum_by (part_moved ps ws company) (range_with_len 1 k) → weight ≡ weight_of (moved ps ws) company
+  unfolding weight_moved
+  part_all company k weight there all is =
+      is ∙ ap (λ n. sum_by (part_moved ps ws company) (range_with_len 1 n)) all ∙ sym (moved_weight company there)
 
 module _ (ps : List ℕ) (each : (k : ℕ) → k < 32 → TakesPart ps k) where
   -- the one that takes part for a company

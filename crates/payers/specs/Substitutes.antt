@@ -3,14 +3,16 @@ use Rattle.std.specs.Prelude.{◌≡◌, ℕ, ◌+◌, ◌-◌, ◌<◌, ◌≤�
 use Rattle.std.proofs.Math.Path.{refl, sym, ap}
 use Rattle.std.proofs.Common.{◌∙◌, ⊎_elim, arith}
 use Rattle.std.specs.List.{range_with_len, list_any}
+use Rattle.std.proofs.lemmas.List.FromFn.{length-range_with_len, get_or-range_with_len}
 use Rattle.std.proofs.lemmas.List.Sums.{sum_by-cons}
 use Rattle.std.proofs.lemmas.List.{get_or-set_same, get_or-set_other}
 use Rattle.std.proofs.lemmas.Bool.{cases_Bool, cases_eq, cond-true, cond-false, lt-ltb, le-ltb, ltb-false, eqb-true, eqb-false, eq-eqb, ne_eqb, not-false, not_from_true, not_from_false, or_parts, both_ways}
 use Rattle.std.proofs.lemmas.Bool.Decides.{nat_tests}
+use Rattle.prorating.specs.Counts.{same_places}
 use Rattle.payers.specs.Bases.{is_company}
 use Rattle.payers.specs.Replacements.{participant_of, is_replaced, takes_part_for, is_substitute, is_barred, TakesPart}
 use Rattle.payers.specs.CompaniesLemmas.{weight_next}
-use Rattle.payers.specs.Runs.{sum_term, sum_same, sum_zero}
+use Rattle.payers.specs.Runs.{sum_next, sum_term, sum_same, sum_zero}
 
 -- whether some element passes a test is whether one or more do
 pub any_counted : (p : ℕ → Bool) (xs : List ℕ) → list_any p xs ≡ nat_lt 0 (count_by p xs)
@@ -24,12 +26,41 @@ any_counted p (x ∷ xs) = go (p x) refl (any_counted p xs)
     go true e rest = sym (lt-ltb _ _ (omega (arith, counted, ap (λ b. cond {A = ℕ} b 1 0) e)))
     go false e rest = rest ∙ ap (nat_lt 0) (omega (arith, counted, ap (λ b. cond {A = ℕ} b 1 0) e))
 
+-- a company that takes part for none of the first k, nor for the next
+pub substitute_next : (ps : List ℕ) (company k : ℕ) → count_by (takes_part_for ps company) (range_with_len 1 k) ≡ 0 → takes_part_for ps company (k + 1) ≡ false → count_by (takes_part_for ps company) (range_with_len 1 (k + 1)) ≡ 0
+substitute_next ps company k none next =
+    omega (arith, sum_next (λ other. cond (takes_part_for ps company other) 1 0) 1 k (k + 1) (omega arith), cond-false {A = ℕ} (takes_part_for ps company (k + 1)) 1 0 next)
+
+-- a company that takes part for one other
+pub substitute_some : (ps : List ℕ) (company k : ℕ) → k < 32 → takes_part_for ps company (k + 1) ≡ true → is_substitute ps company ≡ true
+unfolding is_substitute
+substitute_some ps company k inside found =
+    lt-ltb _ _ (omega (arith, sum_term (λ other. cond (takes_part_for ps company other) 1 0) 1 32 (k + 1) (omega arith) (omega arith), cond-true {A = ℕ} (takes_part_for ps company (k + 1)) 1 0 found))
+
+-- and one that takes part for no other
+pub substitute_none : (ps : List ℕ) (company : ℕ) → count_by (takes_part_for ps company) (range_with_len 1 32) ≡ 0 → is_substitute ps company ≡ false
+unfolding is_substitute
+substitute_none ps company none = le-ltb _ _ (omega arith)
+
 pub only_itself : (ps : List ℕ) (company : ℕ) → is_substitute ps company ≡ false → (other : ℕ) → 1 ≤ other → other < 33 → participant_of ps other ≡ company → other ≡ company
 unfolding is_substitute
 only_itself ps company none other low high takes =
     let count = ltb-false _ _ none in
     let term = sum_term (λ other. cond (takes_part_for ps company other) 1 0) 1 32 other low high in
     grind (arith, nat_tests)
+
+-- where nobody is replaced
+module _ (ps : List ℕ) (long : length ps ≡ 32) (each : (k : ℕ) → k < 32 → slice_index ps k ≡ k + 1) where
+  pub own_all : ps ≡ range_with_len 1 32
+  own_all =
+      same_places ps (range_with_len 1 32) 32 long (length-range_with_len 1 32)
+      (λ k h. each k h ∙ sym (get_or-range_with_len 1 32 k 0 h ∙ omega arith))
+
+  pub own_takes_part : (k : ℕ) → k < 32 → TakesPart ps k
+  own_takes_part k h =
+      let here = each k h in
+      let company : is_company (k + 1) ≡ true = grind (arith, nat_tests) in
+      rw here (company, weight_next ps k h ∙ here)
 
 -- a company that is not replaced takes part for itself
 pub takes_part_itself : (ps : List ℕ) (company : ℕ) → is_replaced ps company ≡ false → participant_of ps company ≡ company
