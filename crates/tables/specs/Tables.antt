@@ -1,7 +1,7 @@
 -- What the tables hold, without the facts that their types keep.
 use Rattle.std.specs.Prelude.{List, map}
 use Rattle.tables.specs.declared.accounts.Accounts.{Accounts}
-use Rattle.tables.specs.declared.accounts.ShedPot.{ShedPot}
+use Rattle.tables.specs.declared.accounts.WeightedPot.{WeightedPot}
 use Rattle.tables.specs.declared.points.PointTable.{PointTable}
 use Rattle.tables.specs.declared.units.UnitRow.{UnitRow}
 use Rattle.tables.specs.declared.units.UnitTable.{UnitTable}
@@ -15,9 +15,9 @@ listed t = t.rows.items
 abbrev pub points_of : PointTable → Points
 points_of t = record { points = t.points; sheddings = t.sheddings }
 
--- The pot of a shedding.
-abbrev pub shed_pot : ShedPot → Pot
-shed_pot p = record { cents = p.cents; weights = p.base.at }
+-- What a pot stands for.
+abbrev pub as_pot : WeightedPot → Pot
+as_pot p = record { cents = p.cents; weights = p.base.at }
 
 abbrev pub held : Accounts → Held
-held a = record { earned = a.earned; services = a.services; credits = a.credits; pots = map shed_pot a.sheddings.items }
+held a = record { earned = a.earned; services = a.services; credits = a.credits; pots = map as_pot a.sheddings.items }

@@ -15,19 +15,19 @@ pub const SERVICES: usize = 3;
 // How many pots of sheddings there are at most. They are numbered 4 to 19.
 pub const SHED_POTS: usize = 16;
 
-// The pot of a shedding: its worth, and who was injecting in the zone.
+// A pot with the weights of those who pay it: that of a shedding is paid by those who were injecting in the zone.
 #[derive(Clone, Copy)]
-pub struct ShedPot {
+pub struct WeightedPot {
     pub cents: u64,
     pub base: CompanyWeights,
 }
 
 // The pot of nothing, over nobody.
-impl Default for ShedPot {
+impl Default for WeightedPot {
     ghost is_default = { λ p. (p.cents ≡ 0) × (p.base.at ≡ replicate 32 0) };
 
-    fn default() -> ShedPot {
-        ShedPot {
+    fn default() -> WeightedPot {
+        WeightedPot {
             cents: 0,
             base: CompanyWeights::none(),
         }
@@ -40,7 +40,7 @@ pub struct Accounts {
     earned: [u64; COMPANIES],
     services: [u64; SERVICES],
     credits: u64,
-    sheddings: ArrayVec<ShedPot, SHED_POTS>,
+    sheddings: ArrayVec<WeightedPot, SHED_POTS>,
     ghost earned_long: { length earned ≡ 32 },
     ghost services_long: { length services ≡ 3 },
     ghost few: { length sheddings.items ≤ 16 },

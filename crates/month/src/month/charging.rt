@@ -6,7 +6,7 @@ ghost use Rattle.month.specs.Figures.{charge_at, charge_over};
 ghost use Rattle.month.specs.Pots.{pot_charges, charged as charged_by};
 ghost use Rattle.month.specs.Steps.{service_pots, all_pots};
 ghost use Rattle.tables.specs.Accounts.{pot_at};
-ghost use Rattle.tables.specs.Tables.{shed_pot};
+ghost use Rattle.tables.specs.Tables.{as_pot};
 
 use super::{Charges, Month, POTS};
 use numbered::{entry_of, index_of};
@@ -14,7 +14,7 @@ use payers::base::COMPANIES;
 use payers::charging::charges;
 use payers::replacement::Replacement;
 use prorating::rule::Rule;
-use tables::accounts::{SERVICES, ShedPot};
+use tables::accounts::{SERVICES, WeightedPot};
 
 impl Charges {
     // What a company is charged of a pot; 0 for numbers that are none of 1 to 32 and 1 to 19.
@@ -40,20 +40,20 @@ impl Charges {
 
 impl Month {
     // The pots of services: frequency and voltage over what was withdrawn, installations over what was injected.
-    pub(super) fn service_pots(&self) -> [ShedPot; SERVICES]
-        ensures { map shed_pot result ≡ service_pots (book self.now) }
+    pub(super) fn service_pots(&self) -> [WeightedPot; SERVICES]
+        ensures { map as_pot result ≡ service_pots (book self.now) }
     {
         let withdrawals = self.meters.withdrawals();
         [
-            ShedPot {
+            WeightedPot {
                 cents: self.accounts.service(1),
                 base: withdrawals,
             },
-            ShedPot {
+            WeightedPot {
                 cents: self.accounts.service(2),
                 base: withdrawals,
             },
-            ShedPot {
+            WeightedPot {
                 cents: self.accounts.service(3),
                 base: self.meters.injections(),
             },
@@ -61,8 +61,8 @@ impl Month {
     }
 
     // The pot at an index, 0 for pot 1; None where it is unused.
-    fn pot(&self, index: usize) -> Option<ShedPot>
-        ensures { MatchOption result (pot_at (all_pots (book self.now)) index ≡ None) (λ p. pot_at (all_pots (book self.now)) index ≡ Some (shed_pot p)) }
+    fn pot(&self, index: usize) -> Option<WeightedPot>
+        ensures { MatchOption result (pot_at (all_pots (book self.now)) index ≡ None) (λ p. pot_at (all_pots (book self.now)) index ≡ Some (as_pot p)) }
     {
         match index.checked_sub(SERVICES) {
             Some(shedding) => self.accounts.shedding(shedding),

@@ -15,7 +15,7 @@ use payers::charging::total_weight;
 use payers::readings::Reading;
 use prorating::rule::Rule;
 use std::convert::AsSlice;
-use tables::accounts::ShedPot;
+use tables::accounts::WeightedPot;
 
 // Whether a pot above 0 has nobody to pay it.
 fn is_stranded<B: PayerBase>(cents: u64, base: &B) -> bool
@@ -25,7 +25,7 @@ fn is_stranded<B: PayerBase>(cents: u64, base: &B) -> bool
 }
 
 // Whether one of some pots has nobody to pay it.
-fn are_some_stranded(pots: &[ShedPot]) -> bool
+fn are_some_stranded(pots: &[WeightedPot]) -> bool
     ensures { result ≡ list_any (λ p. strands p.cents p.base.at) pots.now }
 {
     pots.iter().any(|pot| is_stranded(pot.cents, &pot.base))

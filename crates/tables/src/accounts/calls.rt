@@ -3,9 +3,9 @@ ghost use Rattle.std.specs.Prelude.{◌≡◌, ◌+◌, ◌^◌, ◌<◌, ◌≤
 ghost use Rattle.prorating.specs.Weights.{limit};
 ghost use Rattle.numbered.specs.Entries.{entry};
 ghost use Rattle.tables.specs.Accounts.{nothing_held, pot_at, passes as passes_limit, with_more, is_credited as is_credited_in, has_room as has_room_in, entered, with_pot, shed as shed_in};
-ghost use Rattle.tables.specs.Tables.{shed_pot, held};
+ghost use Rattle.tables.specs.Tables.{as_pot, held};
 
-use super::{Accounts, SERVICES, ShedPot};
+use super::{Accounts, SERVICES, WeightedPot};
 use arrayvec::ArrayVec;
 use numbered::{entry_of, is_numbered, set_entry};
 use payers::base::COMPANIES;
@@ -63,8 +63,8 @@ impl Accounts {
     }
 
     // The pot of a shedding, the first at 0; None where there are no more.
-    pub fn shedding(&self, index: usize) -> Option<ShedPot>
-        ensures { MatchOption result (pot_at (held self.now).pots index ≡ None) (λ p. pot_at (held self.now).pots index ≡ Some (shed_pot p)) }
+    pub fn shedding(&self, index: usize) -> Option<WeightedPot>
+        ensures { MatchOption result (pot_at (held self.now).pots index ≡ None) (λ p. pot_at (held self.now).pots index ≡ Some (as_pot p)) }
     {
         self.sheddings.get(index).copied()
     }
@@ -120,7 +120,7 @@ impl Accounts {
         ensures credits { self.new.credits ≡ self.old.credits }
     {
         if cents > 0 && !self.is_full() {
-            self.sheddings.push(ShedPot { cents, base });
+            self.sheddings.push(WeightedPot { cents, base });
         }
     }
 

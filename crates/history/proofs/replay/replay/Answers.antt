@@ -3,7 +3,7 @@ use Rattle.std.proofs.lemmas.Result.{err_from_is_err_and}
 use Rattle.prorating.specs.Laws.{Keeps}
 use Rattle.payers.specs.Figures.{column_based}
 use Rattle.tables.proofs.Pots.{pots_based}
-use Rattle.tables.specs.Tables.{shed_pot}
+use Rattle.tables.specs.Tables.{as_pot}
 use Rattle.std.proofs.lemmas.List.{length-map}
 use Rattle.month.specs.declared.month.Month.{Month}
 use Rattle.month.specs.Book.{book}
@@ -29,7 +29,7 @@ sound m =
       withdrawals_based = column_based m.meters.withdrawals m.meters.withdrawals_long m.meters.withdrawals_small;
       injections_based = column_based m.meters.injections m.meters.injections_long m.meters.injections_small;
       pots_based = pots_based m.accounts.sheddings.items;
-      few_pots = omega (arith, length-map m.accounts.sheddings.items shed_pot, m.accounts.few);
+      few_pots = omega (arith, length-map m.accounts.sheddings.items as_pot, m.accounts.few);
       light = m.accounts.light;
       earned_sum = m.accounts.earned_sum;
     }
