@@ -1,6 +1,6 @@
 -- The charges of a pot, and the pots by index.
 use Rattle.std.specs.List.{list_any}
-use Rattle.std.proofs.Common.{◌||◌, map, sum_by, ◌≡◌, ℕ, zero, suc, ◌-◌, ◌<◌, ◌≤◌, Bool, true, false, cond, ltb, leb, List, [], ◌∷◌, length, get_or, set, replicate, sum, sym, refl, ap, ◌∙◌, subst, ⊎_elim, arith}
+use Rattle.std.proofs.Common.{◌*◌, ◌||◌, map, sum_by, ◌≡◌, ℕ, zero, suc, ◌-◌, ◌<◌, ◌≤◌, Bool, true, false, cond, ltb, leb, List, [], ◌∷◌, length, get_or, set, replicate, sum, sym, refl, ap, ◌∙◌, subst, ⊎_elim, arith}
 use Rattle.std.proofs.lemmas.Bool.{and_parts, leb-true, cases_eq, cases_lt}
 use Rattle.std.proofs.lemmas.List.{get_or-set_same, get_or-set_other, get_or-replicate, length-replicate, get_or_past}
 use Rattle.tables.proofs.Entries.{getD_all}
@@ -33,12 +33,16 @@ charge_small pot ws charges ok k = omega (arith, entry_sum charges k, ok.whole, 
 abbrev pub of_row : ℕ → List ℕ → ℕ
 of_row company row = entry 32 0 row company
 
-pub row_small : (row : List ℕ) (company : ℕ) → ((c : ℕ) → get_or row c 0 ≤ limit) → of_row company row ≤ limit
+row_small : (row : List ℕ) (company : ℕ) → ((c : ℕ) → get_or row c 0 ≤ limit) → of_row company row ≤ limit
 row_small row company small = go (is_numbered 32 company)
   where
     go : (t : Bool) → cond t (get_or row (company - 1) 0) 0 ≤ limit
     go true = small (company - 1)
     go false = omega arith
+
+pub rows_small : (rows : List (List ℕ)) (company : ℕ) → ((p c : ℕ) → get_or (get_or rows p []) c 0 ≤ limit) → sum_by (of_row company) rows ≤ length rows * limit
+rows_small [] company small = omega arith
+rows_small (r ∷ rs) company small = omega (arith, sum_by-cons (of_row company) r rs, row_small r company (small 0), rows_small rs company (λ p c. small (suc p) c))
 
 pub rows_over : (rows : List (List ℕ)) (company : ℕ) → length rows ≡ 19 → sum_by (of_row company) rows ≡ charge_over rows company
 unfolding charge_over

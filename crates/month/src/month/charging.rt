@@ -30,11 +30,10 @@ impl Charges {
         ensures is { result ≡ charge_over self.now.of_pots company }
         ensures small { result ≤ 19 * limit }
     {
-        let mut cents = 0;
-        for charges in &self.of_pots {
-            cents += entry_of(charges, company, 0);
-        }
-        cents
+        self.of_pots
+            .iter()
+            .map(|charges| entry_of(charges, company, 0))
+            .sum()
     }
 }
 
