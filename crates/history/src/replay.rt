@@ -36,6 +36,7 @@ pub fn replay<T: AsSlice<Reading>, R: Rule, P: Rule>(
         return Err(Refusal::Short);
     }
     let mut month = Month::blank();
+    // Kept: the index is the answer's place; in a zip with `iter_mut` (tried) an invariant has no name for the elements that are written.
     for (i, call) in calls.iter().enumerate() {
         answers[i] = answer_number(month.apply(call));
     }

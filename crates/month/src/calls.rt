@@ -13,6 +13,7 @@ pub struct Terms {
     pub seconds: u64,
 }
 
+// Kept: families come as numbers, here and where calls are judged, since a call brings any figures, and a type of theirs would ask more of callers.
 // What is posted in an open month. A shedding's readings are a list of `T`: a slice of the caller's, or a vector.
 #[derive(Clone, Copy, Drop)]
 pub enum Post<T> {

@@ -18,6 +18,7 @@ pub(crate) fn outside(low: u64, high: u64, x: u64) -> bool
 }
 
 // Whether a number is no family's.
+// Kept: a number here and below, as the calls bring it.
 fn no_family(family: u64) -> bool
     ensures { result ≡ is_no_family family }
 {

@@ -13,6 +13,7 @@ use payers::readings::Reading;
 use worth::{Installation, Line, Shedding};
 
 impl Month {
+    // Kept: a family's number here and below, since a call brings any figures.
     // Posts a line of a unit in an hour. Its worth joins the pot of its family and the earnings of the unit's owner.
     pub fn line(&mut self, unit: u64, hour: u64, family: u64, line: Line) -> Result<(), Refusal>
         ensures answer { result ≡ post_answer (book self.old) (a_line unit hour family line) }

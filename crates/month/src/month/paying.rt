@@ -13,6 +13,7 @@ use prorating::rule::Rule;
 use std::array;
 
 // What each company owes, and what is due to each.
+// Kept: two lists, not a list of pairs, since `pay` takes each as it stands.
 #[derive(Clone, Copy)]
 pub struct Balances {
     debts: [u64; COMPANIES],

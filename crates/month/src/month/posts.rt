@@ -78,6 +78,7 @@ impl Month {
     }
 
     // Posts a unit's performance in a family.
+    // Kept: a family's number, since a call brings any figures.
     pub fn performance(
         &mut self,
         unit: u64,

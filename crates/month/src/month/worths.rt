@@ -19,6 +19,7 @@ use worth::{Family, Line, Shedding, UnpaidLimits};
 
 impl Month {
     // The performance factor of a unit in a family; 0 where none is given.
+    // Kept: a family's number here and below, as the calls bring it.
     fn factor(&self, unit: u64, family: u64) -> u64
         ensures value { result ≡ factor_in (book self.now).terms.hours (numbered family) ((shown (book self.now)).performed unit family) }
         ensures at_most_whole { result ≤ whole }
