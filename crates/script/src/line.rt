@@ -21,6 +21,7 @@ use worth::{Installation, Line, Performance, Shedding};
 pub type Said = Call<Vec<Reading>, BuiltIn>;
 
 // The line of a kind of 1 to 4 with these figures, if the kind has so many.
+// Kept: a kind or a word and its numbers are two parameters, here and below, since they are matched as a pair and then gone.
 fn low_kind(kind: u64, figures: &[u64]) -> Option<Line>
     ensures { result ≡ low_kind kind figures.now }
 {

@@ -19,8 +19,7 @@ use tables::accounts::{SERVICES, WeightedPot};
 impl Charges {
     // What a company is charged of a pot; 0 for numbers that are none of 1 to 32 and 1 to 19.
     pub(super) fn of(&self, company: u64, pot: u64) -> u64
-        ensures is { result ≡ charge_at self.now.of_pots company pot }
-        ensures small { result ≤ limit }
+        ensures { result ≡ charge_at self.now.of_pots company pot }
     {
         index_of(pot, POTS).map_or(0, |index| entry_of(&self.of_pots[index], company, 0))
     }

@@ -1,4 +1,5 @@
 // The posts that a company earns by: lines, installations and sheddings.
+// Kept: the arguments of a post stand one by one, as in the call; a struct of its own would serve each post alone.
 ghost use Rattle.std.specs.Prelude.{◌≡◌, ◌&&◌, ◌||◌, nat_le, nat_lt};
 ghost use Rattle.month.specs.Meant.{line as a_line, installation as an_installation, shed as a_shed};
 ghost use Rattle.month.specs.Book.{book};

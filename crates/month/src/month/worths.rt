@@ -1,4 +1,5 @@
 // What a line and a shedding are worth after what was posted, and who pays for a shedding.
+// Kept: the arguments of a post stand one by one, as in the call; a struct of its own would serve each post alone.
 ghost use Rattle.std.specs.Prelude.{◌≡◌, ◌≤◌, true, not, ◌&&◌, is_some};
 ghost use Rattle.payers.specs.Zones.{are_readings};
 ghost use Rattle.worth.specs.Families.{numbered};
@@ -19,6 +20,7 @@ use worth::{Family, Line, Shedding, UnpaidLimits};
 
 impl Month {
     // The performance factor of a unit in a family; 0 where none is given.
+    // Kept: the bound stands here as on `Performance::factor`, since a type of a factor would be taken off again for each worth.
     // Kept: a family's number here and below, as the calls bring it.
     fn factor(&self, unit: u64, family: u64) -> u64
         ensures value { result ≡ factor_in (book self.now).terms.hours (numbered family) ((shown (book self.now)).performed unit family) }

@@ -77,6 +77,7 @@ impl Accounts {
     }
 
     // Whether a company may be credited.
+    // Kept: company and cents are two parameters here and below, since each caller has the cents alone.
     fn is_credited(&self, company: u64, cents: u64) -> bool
         ensures { result ≡ is_credited_in (held self.now) company cents }
     {

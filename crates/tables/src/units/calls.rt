@@ -60,6 +60,7 @@ impl UnitRow {
     }
 
     // Notes the performance in a family.
+    // Kept: family and performance are two parameters, since the family only says where the performance goes.
     fn perform(&mut self, family: u64, performance: Performance)
         ensures { self.new ≡ with_performance family performance self.old }
     {
