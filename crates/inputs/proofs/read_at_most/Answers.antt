@@ -1,4 +1,4 @@
-use Rattle.std.proofs.Common.{◌<◌, ◌≤◌, ◌≡◌, length, take, IfSome, MatchOption, ℕ, ◌+◌, Bool, true, false, leb, min, List, ◌++◌, Some, None, Option, Vec, Global, sym, refl, ap, subst, ◌∙◌, arith}
+use Rattle.std.proofs.Common.{◌<◌, ◌≡◌, length, take, IfSome, MatchOption, ℕ, ◌+◌, Bool, true, false, leb, min, List, ◌++◌, Some, None, Option, Vec, Global, sym, refl, ap, subst, ◌∙◌, arith}
 use Rattle.std.specs.Bool.{then_some}
 use Rattle.std.specs.Option.{option_map}
 use Rattle.std.proofs.lemmas.List.{take_all, length-take}
