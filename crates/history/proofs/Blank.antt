@@ -9,7 +9,7 @@ use Rattle.payers.specs.Bases.{is_company}
 use Rattle.payers.specs.Replacements.{participant_of, is_replaced, is_substitute}
 use Rattle.payers.specs.Substitutes.{substitute_of_none}
 use Rattle.tables.specs.Points.{no_point}
-use Rattle.tables.proofs.Entries.{entry_all}
+use Rattle.numbered.proofs.Entries.{entry_all}
 use Rattle.month.specs.Book.{blank_book}
 use Rattle.history.proofs.Holds.{Holds}
 

@@ -11,7 +11,7 @@ use Rattle.tables.specs.Accounts.{Held, Pot, entered, with_pot, passes}
 use Rattle.tables.specs.Accounts.{shed as shed_in}
 use Rattle.numbered.specs.Entries.{is_numbered, entry, with_entry}
 use Rattle.tables.specs.Points.{Points, no_point, point, supplied, shed_at, with_supplier, with_shedding}
-use Rattle.tables.proofs.Entries.{entry_with}
+use Rattle.numbered.proofs.Entries.{entry_with}
 use Rattle.month.specs.Book.{Metering}
 use Rattle.month.specs.Table.{outside, no_company}
 use Rattle.history.specs.History.{either, plus, when, only, is}

@@ -16,7 +16,7 @@ use Rattle.payers.specs.Moved.{moves, moved_based}
 use Rattle.payers.specs.Runs.{sum_same, sum_zero, sum_exchange}
 use Rattle.tables.specs.Accounts.{Pot, pot_at}
 use Rattle.numbered.specs.Entries.{is_numbered, entry}
-use Rattle.tables.proofs.Entries.{entry_all}
+use Rattle.numbered.proofs.Entries.{entry_all}
 use Rattle.month.specs.Figures.{charge_at, charge_over}
 use Rattle.month.specs.Pots.{charges_by, pot_charges, charged}
 use Rattle.month.specs.Seen.{strands}

@@ -10,7 +10,7 @@ use Rattle.numbered.specs.Entries.{is_numbered, entry}
 use Rattle.tables.specs.Units.{fresh, find, change, place, performance, installed, slot, given, is_addable, added, with_performance, with_installation, with_line}
 use Rattle.std.specs.Option.{option_or}
 use Rattle.tables.proofs.Added.{find_added, is_none}
-use Rattle.tables.proofs.Entries.{getD_all, entry_all, entry_with, with_entry_long}
+use Rattle.numbered.proofs.Entries.{getD_all, entry_all, entry_with, with_entry_long}
 use Rattle.tables.specs.Rows.{find_change}
 use Rattle.worth.specs.declared.line.Line.{Line}
 use Rattle.worth.specs.declared.line.Line.TheVariants.{UpwardAvailability, UpwardActivation, Downward, OverCost, Opportunity, ExtraFuel, ExtraResource, ExtraWithdrawal}

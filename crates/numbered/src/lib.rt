@@ -27,6 +27,7 @@ pub fn is_numbered(number: u64, entries: usize) -> bool
 pub fn entry_of<T: Copy, const N: usize>(entries: &[T; N], number: u64, other: T) -> T
     ensures { result ≡ entry N other entries.now number }
 {
+    // Kept: a closure that indexes a generic array tells a proof nothing of what it gives (tried: `map_or(other, |index| entries[index])`).
     let Some(index) = index_of(number, N) else {
         return other;
     };

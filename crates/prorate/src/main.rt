@@ -6,11 +6,11 @@ mod table;
 #[cfg(test)]
 mod tests;
 
+use inputs::read_at_most;
 use prorate_input::{Fault, Input, read};
 use prorating::refusal::Refusal;
 use prorating::weights::{LIMIT, PLACES, Weights};
 use std::io;
-use std::io::Read;
 use std::process::ExitCode;
 use table::{Table, Unshared};
 use thiserror::Error;
@@ -36,6 +36,7 @@ enum Failure {
 }
 
 // The weights are put at places 1, 2 and so on.
+// Kept: each refusal has a message of this program, and `#[from]` has one variant, so one message form, for all refusals.
 impl From<Refusal> for Failure {
     fn from(refusal: Refusal) -> Failure {
         match refusal {
@@ -46,12 +47,7 @@ impl From<Refusal> for Failure {
 }
 
 fn input(rt: &HostRuntime) -> Result<Input, Failure> {
-    let mut bytes = Vec::new(rt.alloc());
-    let mut source = rt.stdin().take(LONGEST as u64 + 1);
-    source.read_to_end(&mut bytes)?;
-    if bytes.len() > LONGEST {
-        return Err(Failure::TooLong);
-    }
+    let bytes = read_at_most(rt.alloc(), rt.stdin(), LONGEST)?.ok_or(Failure::TooLong)?;
     Ok(read(&bytes)?)
 }
 

@@ -32,13 +32,14 @@ impl Rule for Running {
         let Some(shared) = SharedPot::of(pot, weights) else {
             return [0; PLACES];
         };
-        let mut shares = [0; PLACES];
+        // The weight of each place, and then its share.
+        let mut shares = *weights.each();
         let mut weight = 0;
         let mut given = 0;
-        for (k, own) in weights.each().iter().enumerate() {
-            weight += own;
+        for share in shares.iter_mut() {
+            weight += *share;
             let part = shared.floor(weight);
-            shares[k] = part - given;
+            *share = part - given;
             given = part;
         }
         shares

@@ -48,8 +48,8 @@ impl Weights {
             return Err(Refusal::Place);
         }
         let mut list = Weights::empty();
-        for (k, weight) in weights.iter().enumerate() {
-            list.put(k as u64 + 1, *weight)?;
+        for (place, weight) in (1..).zip(weights) {
+            list.put(place, *weight)?;
         }
         Ok(list)
     }

@@ -8,6 +8,7 @@ mod tests;
 
 use clearing::payments::ENTRIES;
 use history::replay::replay;
+use inputs::read_at_most;
 use month::figures::Outcome;
 use prorating::running::Running;
 use report::{Refused, charges, nets};
@@ -15,7 +16,6 @@ use script::Fault;
 use std::alloc::AllocError;
 use std::fmt::Display;
 use std::io;
-use std::io::Read;
 use std::process::ExitCode;
 use thiserror::Error;
 
@@ -36,16 +36,11 @@ enum Failure {
 }
 
 fn input(rt: &HostRuntime) -> Result<Vec<u8>, Failure> {
-    let mut bytes = Vec::new(rt.alloc());
-    let mut source = rt.stdin().take(LONGEST as u64 + 1);
-    source.read_to_end(&mut bytes)?;
-    if bytes.len() > LONGEST {
-        return Err(Failure::TooLong);
-    }
-    Ok(bytes)
+    read_at_most(rt.alloc(), rt.stdin(), LONGEST)?.ok_or(Failure::TooLong)
 }
 
 // A line for each call: its number and its answer.
+// Kept: printed here, as the title below, since a struct with a Display would be made for this one line alone.
 fn print_answers(rt: &HostRuntime, answers: &[u8]) -> io::Result<()> {
     let count = answers.len();
     println!(rt; "answers {count}")?;

@@ -1,4 +1,3 @@
-pub mod Entries
 pub mod Added
 pub mod Pots
 pub mod Changed

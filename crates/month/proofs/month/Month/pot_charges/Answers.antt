@@ -1,5 +1,5 @@
 use Rattle.std.proofs.Common.{ℕ, arith}
-use Rattle.tables.proofs.Entries.{getD_all}
+use Rattle.numbered.proofs.Entries.{getD_all}
 use Rattle.month.proofs.Charged.{charge_small}
 use Rattle.month.proofs.month.Month.pot_charges.Goals as goal
 

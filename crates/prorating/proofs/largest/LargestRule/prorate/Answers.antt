@@ -1,7 +1,7 @@
 use Rattle.std.proofs.Common.{rules, ◌≡◌, ◌+◌, ◌*◌, ◌/◌, ◌%◌, ◌<◌, ◌≤◌, sym, length, arith, sum, ◌∙◌, map, ap, get_or, ℕ, ◌-◌, List, cond}
 use Rattle.std.specs.Prelude.{slice_index, nat_lt}
 use Rattle.std.specs.List.{range_with_len}
-use Rattle.numbered.specs.Made.{made_by}
+use Rattle.numbered.specs.Made.{made_by, mapped_by, serves_each, serves_below}
 use Rattle.std.proofs.lemmas.List.Sums.{get_or-le-sum_by}
 use Rattle.std.proofs.lemmas.Iterator.{YieldsList-from_slice}
 use Rattle.std.proofs.lemmas.Iterator.Consumers.{fits_from_yields_list, sum_from_yields_List}
@@ -9,7 +9,6 @@ use Rattle.prorating.specs.Weights.{Weighed, limit}
 use Rattle.prorating.specs.Largest.{rank, largest, floors, remainders, odd_cent, largest_share, cents_left}
 use Rattle.prorating.specs.SharedBy.{shared_map, shared_some, shared_none}
 use Rattle.prorating.specs.OddCents.{floors_small, largest_remainders}
-use Rattle.prorating.proofs.Made.{mapped_by, serves_each, serves_below}
 use Rattle.prorating.proofs.largest.LargestRule.prorate.Goals as goal
 use Rattle.prorating.proofs.largest.LargestRule.prorate.Goals.{After-from_fn, After-each-each, After-map-floors, After-map-remainders}
 

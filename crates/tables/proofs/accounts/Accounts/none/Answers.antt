@@ -1,5 +1,5 @@
 use Rattle.std.proofs.Common.{ℕ, length, ap, refl, arith, rules}
-use Rattle.tables.proofs.Entries.{getD_all}
+use Rattle.numbered.proofs.Entries.{getD_all}
 use Rattle.tables.proofs.accounts.Accounts.none.Goals as goal
 
 pub invariant_of-result : goal.invariant_of-result

@@ -1,6 +1,6 @@
 use Rattle.std.proofs.Common.{◌≡◌, ℕ, replicate, slice_index_or, ap, subst, arith, rules}
 use Rattle.tables.specs.Points.{no_point}
-use Rattle.tables.proofs.Entries.{getD_all}
+use Rattle.numbered.proofs.Entries.{getD_all}
 use Rattle.tables.proofs.points.PointTable.none.Goals as goal
 
 pub invariant_of-result : goal.invariant_of-result
