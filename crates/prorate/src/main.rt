@@ -51,6 +51,7 @@ fn input(rt: &HostRuntime) -> Result<Input, Failure> {
     Ok(read(&bytes)?)
 }
 
+// Kept: printed here, since a struct with a Display would be made for these lines alone.
 // A line for each weight: its number, the weight, and its share by each rule; then the totals.
 fn print(rt: &HostRuntime, input: &Input, weights: &Weights, table: &Table) -> io::Result<()> {
     let shares = table.running.shares.iter().zip(&table.largest.shares);
@@ -72,6 +73,7 @@ fn run(rt: &HostRuntime) -> Result<(), Failure> {
     Ok(())
 }
 
+// Kept: the same few lines stand in `replay`, which has a name, a `run` and failures of its own.
 fn main(rt: HostRuntime) -> io::Result<ExitCode> {
     match run(&rt) {
         Ok(()) => Ok(ExitCode::SUCCESS),
