@@ -8,7 +8,6 @@ use Rattle.std.proofs.lemmas.List.Sums.{sum_by-cons}
 use Rattle.prorating.specs.Weights.{limit}
 use Rattle.prorating.specs.Laws.{is_shared, amount_shared}
 use Rattle.payers.specs.Charges.{Charged}
-use Rattle.tables.specs.Accounts.{Pot, pot_at}
 use Rattle.numbered.specs.Entries.{is_numbered, entry}
 use Rattle.month.specs.Figures.{charge_over}
 use Rattle.std.proofs.lemmas.List.FromFn.{fill_by_all}

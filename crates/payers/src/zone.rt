@@ -27,6 +27,7 @@ fn summed<O: Owners>(readings: &[Reading], owners: &O, zone: u64) -> CompanyWeig
     ensures { Summed (O.Owners.owner owners.now) zone readings.now result.at }
 {
     let mut kwh = [0; COMPANIES];
+    // Kept: a loop, since each reading adds to one of 32 sums, and the library has no method for that.
     for reading in readings {
         if let Some(company) = owners.owner_in(reading.unit, zone) {
             let injected = entry_of(&kwh, company, 0) + reading.kwh;

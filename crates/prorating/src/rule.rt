@@ -5,6 +5,7 @@ ghost use Rattle.prorating.specs.Laws.{Long, Nothing, Whole, EachNear, Weightles
 use crate::weights::{LIMIT, PLACES, Weights};
 
 // A way to share a pot of cents over 48 places by their weights.
+// Kept: pot and weights are two arguments, since one list of weights serves many pots.
 pub trait Rule {
     // What the rule means: for a pot and the weights, one list of shares.
     ghost shares: { Self → ℕ → List ℕ → List ℕ };

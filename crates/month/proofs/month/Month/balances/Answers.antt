@@ -1,4 +1,4 @@
-use Rattle.std.proofs.Common.{rules, ◌≡◌, ℕ, ◌+◌, ◌-◌}
+use Rattle.std.proofs.Common.{rules, ℕ, ◌+◌, ◌-◌}
 use Rattle.numbered.specs.Made.{made_by}
 use Rattle.payers.specs.Companies.{by_company}
 use Rattle.month.specs.Answers.{credit_in}

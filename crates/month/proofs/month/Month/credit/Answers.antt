@@ -1,4 +1,4 @@
-use Rattle.std.proofs.Common.{◌≡◌, ◌≤◌, sum, ap, ◌∙◌, arith}
+use Rattle.std.proofs.Common.{◌≡◌, ap, ◌∙◌, arith}
 use Rattle.payers.specs.Bases.{weight_of}
 use Rattle.payers.specs.Replacements.{weight_moved, moved}
 use Rattle.payers.specs.Moved.{part_small, moved_any}

@@ -1,7 +1,5 @@
 use Rattle.std.proofs.lemmas.Result.{err_from_is_err_and}
-use Rattle.month.proofs.Paying.{AnswersAs, answers_as}
-use Rattle.month.specs.Book.{book}
-use Rattle.month.proofs.month.Month.payments.Given as given
+use Rattle.month.proofs.Paying.{answers_as}
 use Rattle.month.proofs.month.Month.payments.Goals as goal
 
 pub returns-in_err-pay : goal.returns-in_err-pay
