@@ -73,7 +73,7 @@ pub fn pay<R: Rule>(
         return Err(Refusal::Total);
     }
     let mut due = places(dues);
-    // Kept: the index says where the row goes, and a loop over chunks of a lent table leaves a proof without what was written.
+    // Kept: the index says where the row goes.
     for (from, debt) in debts.iter().enumerate() {
         let row = rule.prorate(*debt, &weight_list(&due));
         write_row(table, from, &row);

@@ -5,9 +5,9 @@ ghost use Rattle.clearing.specs.Refusals.{number as number_of};
 #[derive(Clone, Copy, Debug, PartialEq)]
 pub enum Refusal {
     // The table has fewer than 1,024 entries.
-    Short,
+    Short = 10,
     // All dues together are above the limit.
-    Total,
+    Total = 2,
 }
 
 // The refusal's number, as in docs/REFUSALS.md.
@@ -15,9 +15,6 @@ impl From<Refusal> for u8 {
     ghost from_gives = { λ refusal n. n ≡ number_of refusal };
 
     fn from(refusal: Refusal) -> u8 {
-        match refusal {
-            Refusal::Short => 10,
-            Refusal::Total => 2,
-        }
+        refusal as u8
     }
 }

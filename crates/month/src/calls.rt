@@ -4,7 +4,7 @@ use tables::units::Place;
 use worth::{Installation, Line, Performance, Shedding};
 
 // The figures that a month is opened with.
-#[derive(Clone, Copy)]
+#[derive(Clone, Copy, Default)]
 pub struct Terms {
     pub period: u64,
     pub hours: u64,

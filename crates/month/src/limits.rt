@@ -1,5 +1,5 @@
 // The limits of the figures that a call brings.
-// Kept: the arguments of a post stand one by one, as in the call; a struct of its own would serve each post alone.
+// Kept: the arguments of a post stand one by one; a struct of unit and family, say, would be made at each call and taken apart in its first line.
 ghost use Rattle.std.specs.Prelude.{◌≡◌};
 ghost use Rattle.month.specs.Table.{outside as is_outside, no_family as is_no_family, terms_outside as are_terms_outside, unit_outside as is_unit_outside, performance_outside as is_performance_outside, line_outside as is_line_outside, installation_outside as is_installation_outside, meter_outside as is_meter_outside, shed_outside as is_shed_outside, disallowed as is_disallowed, no_period as is_no_period};
 ghost use Rattle.worth.specs.Families.{numbered};
@@ -19,7 +19,7 @@ pub(crate) fn outside(low: u64, high: u64, x: u64) -> bool
 }
 
 // Whether a number is no family's.
-// Kept: a number here and below, as the calls bring it.
+// Kept: a number here and below, since it is judged here (see calls.rt).
 fn no_family(family: u64) -> bool
     ensures { result ≡ is_no_family family }
 {

@@ -5,25 +5,25 @@ ghost use Rattle.month.specs.Refusals.{number as number_of, of_payers, of_cleari
 #[derive(Clone, Copy, Debug, PartialEq)]
 pub enum Refusal {
     // The stage does not allow the call.
-    Stage,
+    Stage = 1,
     // A figure, kind, family, pot or count is outside its limits.
-    Limits,
+    Limits = 2,
     // A company, unit or point is not registered.
-    Unregistered,
+    Unregistered = 3,
     // Registered or given already; a unit twice in the readings.
-    Again,
+    Again = 4,
     // A 49th unit; a 10,001st shedding; a 17th pot of sheddings.
-    Full,
+    Full = 5,
     // A replacement is barred.
-    Barred,
+    Barred = 6,
     // A line that needs a performance of its unit and family, without one.
-    NoPerformance,
+    NoPerformance = 7,
     // All credits together would pass the limit.
-    Credits,
+    Credits = 8,
     // A pot above 0 whose weights total 0.
-    NoWeight,
+    NoWeight = 9,
     // The table handed in is too short.
-    Short,
+    Short = 10,
 }
 
 // The refusal's number, as in docs/REFUSALS.md.
@@ -31,18 +31,7 @@ impl From<Refusal> for u8 {
     ghost from_gives = { λ refusal n. n ≡ number_of refusal };
 
     fn from(refusal: Refusal) -> u8 {
-        match refusal {
-            Refusal::Stage => 1,
-            Refusal::Limits => 2,
-            Refusal::Unregistered => 3,
-            Refusal::Again => 4,
-            Refusal::Full => 5,
-            Refusal::Barred => 6,
-            Refusal::NoPerformance => 7,
-            Refusal::Credits => 8,
-            Refusal::NoWeight => 9,
-            Refusal::Short => 10,
-        }
+        refusal as u8
     }
 }
 

@@ -57,7 +57,7 @@ impl Replacements {
     }
 
     // Whether the new company cannot replace the old one.
-    // Kept: the two numbers are arguments of their own, here and at `replace`, since nothing else takes the pair.
+    // Kept: two numbers here and at `replace`; a pair would be made at each call and taken apart in its first line.
     fn is_barred(&self, old: u64, new: u64) -> bool
         ensures { result ≡ is_barred_in self.now.participants old new }
     {

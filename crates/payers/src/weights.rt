@@ -29,6 +29,7 @@ impl CompanyWeights {
     pub fn of(weights: &[u64; COMPANIES]) -> Option<CompanyWeights>
         ensures { MatchOption result (limit < sum weights.now) (λ base. base.at ≡ weights.now) }
     {
+        // Kept: tried `then`; inside a closure the total's bound, which the type keeps, stayed open.
         if Weights::of(weights).is_err() {
             return None;
         }

@@ -36,7 +36,7 @@ enum Failure {
 }
 
 // The weights are put at places 1, 2 and so on.
-// Kept: each refusal has a message of this program, and `#[from]` has one variant, so one message form, for all refusals.
+// Kept: no plainer by `#[from]`, which gives one variant, where the two refusals have messages of their own.
 impl From<Refusal> for Failure {
     fn from(refusal: Refusal) -> Failure {
         match refusal {
@@ -73,7 +73,7 @@ fn run(rt: &HostRuntime) -> Result<(), Failure> {
     Ok(())
 }
 
-// Kept: the same few lines stand in `replay`, which has a name, a `run` and failures of its own.
+// Kept: the same few lines stand in `replay`; a function of both would take the name and the outcome of `run`, and be no shorter.
 fn main(rt: HostRuntime) -> io::Result<ExitCode> {
     match run(&rt) {
         Ok(()) => Ok(ExitCode::SUCCESS),

@@ -31,7 +31,7 @@ impl SharedPot {
     }
 
     // pot × weight, which fits 64 bits.
-    // Kept: the weight's bound stands here and at the two that call this, as a fact of the argument and of no type.
+    // Kept: the weight's bound stands here and at the two that call this; a type of a weight with its total would be made for each of 48 weights.
     fn product(&self, weight: u64) -> u64
         requires { weight ≤ self.now.total }
         ensures { result ≡ self.now.pot * weight }

@@ -81,7 +81,7 @@ fn run(rt: &HostRuntime) -> Result<(), Failure> {
     Ok(())
 }
 
-// Kept: the same few lines stand in `prorate`, which has a name, a `run` and failures of its own.
+// Kept: the same few lines stand in `prorate`; a function of both would take the name and the outcome of `run`, and be no shorter.
 fn main(rt: HostRuntime) -> io::Result<ExitCode> {
     match run(&rt) {
         Ok(()) => Ok(ExitCode::SUCCESS),

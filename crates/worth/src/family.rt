@@ -6,8 +6,8 @@ ghost use Rattle.worth.specs.Families.{numbered, number as number_of};
 // What a service controls. Each family has its own standard of performance.
 #[derive(Clone, Copy, PartialEq, Eq, Debug)]
 pub enum Family {
-    Frequency,
-    Voltage,
+    Frequency = 1,
+    Voltage = 2,
 }
 
 // What is answered for a number that is no family's.
@@ -34,9 +34,6 @@ impl From<Family> for u64 {
     ghost from_gives = { λ family number. number ≡ number_of family };
 
     fn from(family: Family) -> u64 {
-        match family {
-            Family::Frequency => 1,
-            Family::Voltage => 2,
-        }
+        family as u64
     }
 }

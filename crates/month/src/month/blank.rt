@@ -18,13 +18,7 @@ impl Month {
     {
         Month {
             stage: Stage::Blank,
-            terms: Terms {
-                period: 0,
-                hours: 0,
-                failure_cost: 0,
-                count: 0,
-                seconds: 0,
-            },
+            terms: Terms::default(),
             registered: Marks::none(),
             replacements: Replacements::none(),
             units: UnitTable::none(),

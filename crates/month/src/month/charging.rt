@@ -85,7 +85,7 @@ impl Month {
         ensures { result.of_pots ≡ charged_by (R.Rule.shares rule.now) (book self.now).participants (all_pots (book self.now)) }
     {
         let mut of_pots = [[0; COMPANIES]; POTS];
-        // Kept: the index is the pot's, and of a closure that calls a generic rule a proof knows nothing without its contract written again.
+        // Kept: tried `array::from_fn`; of its closure, which calls a generic function, the proof found neither the meaning nor the bound.
         for (k, charges) in of_pots.iter_mut().enumerate() {
             *charges = self.pot_charges(k, rule);
         }

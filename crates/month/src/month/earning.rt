@@ -1,15 +1,15 @@
 // The posts that a company earns by: lines, installations and sheddings.
-// Kept: the arguments of a post stand one by one, as in the call; a struct of its own would serve each post alone.
+// Kept: the arguments of a post stand one by one; a struct of unit and family, say, would be made at each call and taken apart in its first line.
 ghost use Rattle.std.specs.Prelude.{◌≡◌, ◌&&◌, ◌||◌, nat_le, nat_lt};
 ghost use Rattle.month.specs.Meant.{line as a_line, installation as an_installation, shed as a_shed};
 ghost use Rattle.month.specs.Book.{book};
 ghost use Rattle.month.specs.Steps.{shown, post_answer, post_after};
 
 use super::Month;
+use super::stages::is_stranded;
 use crate::limits::{installation_outside, line_outside, shed_outside};
 use crate::readings::twice;
 use crate::refusal::Refusal;
-use payers::charging::total_weight;
 use payers::readings::Reading;
 use worth::{Installation, Line, Shedding};
 
@@ -109,7 +109,7 @@ impl Month {
             return Err(Refusal::Credits);
         }
         let hour = self.zone_hour(zone, readings);
-        if cents > 0 && total_weight(&hour) == 0 {
+        if is_stranded(cents, &hour) {
             return Err(Refusal::NoWeight);
         }
         self.points.shed(point, shedding.seconds);

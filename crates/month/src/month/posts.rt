@@ -1,5 +1,5 @@
 // The posts, one by one: each is judged row by row, and then entered.
-// Kept: the arguments of a post stand one by one, as in the call; a struct of its own would serve each post alone.
+// Kept: the arguments of a post stand one by one; a struct of unit and family, say, would be made at each call and taken apart in its first line.
 ghost use Rattle.std.specs.Prelude.{◌≡◌, if◌then◌else◌, Ok, Err};
 ghost use Rattle.month.specs.Meant.{company as a_company, replace as a_replace, unit as a_unit, performance as a_performance, meter as a_meter, point as a_point};
 ghost use Rattle.month.specs.Table.{is_begun};

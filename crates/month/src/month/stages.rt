@@ -18,7 +18,7 @@ use std::convert::AsSlice;
 use tables::accounts::WeightedPot;
 
 // Whether a pot above 0 has nobody to pay it.
-fn is_stranded<B: PayerBase>(cents: u64, base: &B) -> bool
+pub(super) fn is_stranded<B: PayerBase>(cents: u64, base: &B) -> bool
     ensures { result ≡ strands cents (B.PayerBase.weights base.now) }
 {
     cents > 0 && total_weight(base) == 0

@@ -1,5 +1,5 @@
 // What a line and a shedding are worth after what was posted, and who pays for a shedding.
-// Kept: the arguments of a post stand one by one, as in the call; a struct of its own would serve each post alone.
+// Kept: unit, family and line stand one by one; a struct of them would be made at each call and taken apart in its first line.
 ghost use Rattle.std.specs.Prelude.{◌≡◌, ◌≤◌, true, not, ◌&&◌, is_some};
 ghost use Rattle.payers.specs.Zones.{are_readings};
 ghost use Rattle.worth.specs.Families.{numbered};
@@ -20,8 +20,8 @@ use worth::{Family, Line, Shedding, UnpaidLimits};
 
 impl Month {
     // The performance factor of a unit in a family; 0 where none is given.
-    // Kept: the bound stands here as on `Performance::factor`, since a type of a factor would be taken off again for each worth.
-    // Kept: a family's number here and below, as the calls bring it.
+    // Kept: the bound stands here as on `Performance::factor`, since a type of a factor would be unwrapped again for each worth.
+    // Kept: a family's number here and below; the tables are asked by it, and a `Family` would be turned back for each look-up.
     fn factor(&self, unit: u64, family: u64) -> u64
         ensures value { result ≡ factor_in (book self.now).terms.hours (numbered family) ((shown (book self.now)).performed unit family) }
         ensures at_most_whole { result ≤ whole }
@@ -39,10 +39,7 @@ impl Month {
     pub(super) fn lacks_performance(&self, unit: u64, family: u64, line: &Line) -> bool
         ensures { result ≡ (needs_performance line.now && not (is_some ((shown (book self.now)).performed unit family))) }
     {
-        if !line.needs_performance() {
-            return false;
-        }
-        self.units.performance(unit, family).is_none()
+        line.needs_performance() && self.units.performance(unit, family).is_none()
     }
 
     // What a line is worth, whose figures are within their limits.
