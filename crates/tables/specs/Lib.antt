@@ -3,3 +3,4 @@ pub mod Points
 pub mod Accounts
 pub mod Tables
 pub mod Rows
+pub mod FirstRows

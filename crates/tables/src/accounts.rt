@@ -23,6 +23,7 @@ pub struct WeightedPot {
 }
 
 // The pot of nothing, over nobody.
+// Kept: by hand, since `CompanyWeights` keeps its total by a ghost field and has no Default to derive from.
 impl Default for WeightedPot {
     ghost is_default = { λ p. (p.cents ≡ 0) × (p.base.at ≡ replicate 32 0) };
 

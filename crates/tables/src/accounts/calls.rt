@@ -1,4 +1,5 @@
 // What is asked of the accounts, and what is entered.
+// Kept: services as numbers, as said in accounts.rt.
 ghost use Rattle.std.specs.Prelude.{◌≡◌, ◌+◌, ◌^◌, ◌<◌, ◌≤◌, true, length, if◌then◌else◌, Some, None, MatchOption, nat_le};
 ghost use Rattle.prorating.specs.Weights.{limit};
 ghost use Rattle.numbered.specs.Entries.{entry};
@@ -13,6 +14,7 @@ use payers::weights::CompanyWeights;
 use prorating::weights::LIMIT;
 
 // Adds cents to the entry of a number; nothing for any other number.
+// Kept: a function of its own, as zone.rt of payers has these two lines in place: a public one in numbered would have to ask for room for the sum.
 fn add_to<const N: usize>(entries: &mut [u64; N], number: u64, cents: u64)
     requires { entry N 0 entries.old number + cents < 2 ^ 64 }
     ensures { entries.new ≡ with_more N entries.old number cents }
@@ -77,7 +79,7 @@ impl Accounts {
     }
 
     // Whether a company may be credited.
-    // Kept: company and cents are two parameters here and below, since each caller has the cents alone.
+    // Kept: company and cents are two parameters here and below; a pair would be made at each call and taken apart in its first line.
     fn is_credited(&self, company: u64, cents: u64) -> bool
         ensures { result ≡ is_credited_in (held self.now) company cents }
     {

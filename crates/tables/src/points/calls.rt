@@ -1,10 +1,10 @@
 // What is asked of the points, and what is noted.
 ghost use Rattle.std.specs.Prelude.{◌≡◌, ◌≤◌, nat_le};
-ghost use Rattle.tables.specs.Points.{no_points, point as point_in, with_supplier, is_counted as is_counted_in, with_shedding};
+ghost use Rattle.tables.specs.Points.{no_points, point as point_in, with_supplier, with_shedding};
 ghost use Rattle.tables.specs.Tables.{points_of};
 
 use super::{LONGEST, POINTS, Point, PointTable, SHEDDINGS};
-use numbered::{entry_of, index_of, is_numbered};
+use numbered::{entry_of, index_of};
 
 impl PointTable {
     // No point is registered, and nothing was shed.
@@ -41,19 +41,15 @@ impl PointTable {
         }
     }
 
-    // Whether a shedding may be counted.
-    fn is_counted(&self, number: u64, seconds: u64) -> bool
-        ensures { result ≡ is_counted_in (points_of self.now) number seconds }
-    {
-        is_numbered(number, POINTS) && !self.is_full() && seconds <= LONGEST
-    }
-
     // Counts a shedding at a point; nothing where it may not be counted.
     pub fn shed(&mut self, number: u64, seconds: u64)
         ensures { points_of self.new ≡ with_shedding (points_of self.old) number seconds }
     {
-        if self.is_counted(number, seconds) {
-            let point = &mut self.points[number as usize - 1];
+        if self.is_full() || seconds > LONGEST {
+            return;
+        }
+        if let Some(index) = index_of(number, POINTS) {
+            let point = &mut self.points[index];
             point.count += 1;
             point.seconds += seconds;
             self.sheddings += 1;

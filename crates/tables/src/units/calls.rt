@@ -1,4 +1,5 @@
 // What is asked of a table of units, and what is entered.
+// Kept: families as numbers, as said in units.rt.
 ghost use Rattle.std.specs.Prelude.{◌≡◌, false, [], length, if◌then◌else◌, Some, None, ◌==◌, nat_le, slice_index_or, position};
 ghost use Rattle.std.specs.Fn.{FnOnceReturnsAtMut};
 ghost use Rattle.std.specs.Option.{option_copied};
