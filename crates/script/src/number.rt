@@ -33,13 +33,11 @@ pub(crate) fn paired(heap: Global, numbers: &[u64]) -> Result<Vec<Reading>, Allo
     ensures { IfOk result (λ readings. readings.items ≡ pairs numbers.now) }
 {
     let mut readings = Vec::new(heap);
-    let mut rest = numbers;
-    while let [unit, kwh, after @ ..] = rest {
+    for pair in numbers.chunks_exact(2) {
         readings.push(Reading {
-            unit: *unit,
-            kwh: *kwh,
+            unit: pair[0],
+            kwh: pair[1],
         })?;
-        rest = after;
     }
     Ok(readings)
 }
