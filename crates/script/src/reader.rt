@@ -31,8 +31,8 @@ pub fn read(heap: Global, bytes: &[u8]) -> Result<Script, Fault>
 {
     let mut calls = Vec::new(heap);
     let mut rest = bytes;
+    // Kept: `cut` gives the line and whether a line end follows it, which `split` does not tell.
     while !rest.is_empty() {
-        // Kept: `cut` gives the line and whether a line end follows it, which `split` does not tell.
         let (line, after) = cut(rest, b'\n');
         let call = read_line(heap, line)?.ok_or_else(|| Fault::NoCall(calls.len() as u64 + 1))?;
         calls.push(call)?;

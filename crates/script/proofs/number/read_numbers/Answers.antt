@@ -19,12 +19,13 @@ road c =
     YieldsList-from_slice_split _ (λ b. eqb b 32) c.in-Some.text.now c.split-field-items.ensures.rest c.split-field-items.ensures.done c.split-field-items.ensures.closure (λ x b q called. search rules) in
     subst (YieldsList given.iterator-loop-field.next_gives (λ x. x.now) c.into_iter-field-iterator.result) (parts_are_pieces 32 c.in-Some.text.now ∙ sym (ap (following 32) c.in-Some.is)) (YieldsList-at c.into_iter-field-iterator.ensures.into_iter_gives whole)
 
--- the field of this turn, and the others
-turn : (c : In-Some-field) → drop (length c.loop-field.yielded) (following 32 c.args.fields) ≡ c.in-Some-field.field.now ∷ drop (length c.loop-field.yielded + 1) (following 32 c.args.fields)
+-- the numbers so far, and those of the field of this turn and the others
+turn : (c : In-Some-field) → numbers_of (following 32 c.args.fields) ≡ after (vec_items c.loop-field.numbers) (numbers_of (c.in-Some-field.field.now ∷ drop (length c.loop-field.yielded + 1) (following 32 c.args.fields)))
 turn c =
     let r = road (goal.at.In-Some-field c).After-into_iter-field-iterator in
     let t = YieldsList-turn r c.loop-field.yielded _ c.loop-field.yielded_by _ _ c.in-Some-field.field c.in-Some-field.is c.next.ensures.steps in
-    from_place (following 32 c.args.fields) (length c.loop-field.yielded) c.in-Some-field.field.now t.0 t.1
+    c.loop-field.invariant
+    ∙ ap (λ fs. after (vec_items c.loop-field.numbers) (numbers_of fs)) (from_place (following 32 c.args.fields) (length c.loop-field.yielded) c.in-Some-field.field.now t.0 t.1)
 
 pub loop-field-init : goal.loop-field-init
 loop-field-init c = rw c.new-numbers.ensures.items (sym (after_none (numbers_of (following 32 c.args.fields))))
@@ -32,14 +33,12 @@ loop-field-init c = rw c.new-numbers.ensures.items (sym (after_none (numbers_of 
 pub returns-in_default-number : goal.returns-in_default-number
 returns-in_default-number c =
     sym (
-    c.loop-field.invariant
-    ∙ ap (λ fs. after (vec_items c.loop-field.numbers) (numbers_of fs)) (turn (goal.at.returns-in_default-number c).In-Some-field)
+    turn (goal.at.returns-in_default-number c).In-Some-field
     ∙ number_bad (vec_items c.loop-field.numbers) c.in-Some-field.field.now (drop (length c.loop-field.yielded + 1) (following 32 c.args.fields)) (sym c.number.ensures ∙ c.in_default-number.is))
 
 pub loop-field-preserved : goal.loop-field-preserved
 loop-field-preserved c = rw (length-append, c.in_ok-push.ensures.items) (
-    c.loop-field.invariant
-    ∙ ap (λ fs. after (vec_items c.loop-field.numbers) (numbers_of fs)) (turn (goal.at.loop-field-preserved c).In-Some-field)
+    turn (goal.at.loop-field-preserved c).In-Some-field
     ∙ number_turn (vec_items c.loop-field.numbers) c.in-Some-field.field.now (drop (length c.loop-field.yielded + 1) (following 32 c.args.fields)) c.in-Some-number.n (sym c.number.ensures ∙ c.in-Some-number.is))
 
 pub returns : goal.returns
