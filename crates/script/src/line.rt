@@ -21,7 +21,7 @@ use worth::{Installation, Line, Performance, Shedding};
 pub type Said = Call<Vec<Reading>, BuiltIn>;
 
 // The line of a kind of 1 to 4 with these figures, if the kind has so many.
-// Kept: a kind or a word and its numbers are two parameters, here and below, since they are matched as a pair and then gone.
+// Kept: a kind or a word and its numbers are two parameters, here and below, since they are matched as a pair and not used after.
 fn low_kind(kind: u64, figures: &[u64]) -> Option<Line>
     ensures { result ≡ low_kind kind figures.now }
 {
@@ -49,7 +49,7 @@ fn low_kind(kind: u64, figures: &[u64]) -> Option<Line>
 }
 
 // The line of a kind of 5 to 8 with these figures, if the kind has so many.
-// Kept: one match over the eight kinds is a function of 49 lines.
+// Kept: in two halves, since one match over the eight kinds is over forty lines, and needs no figure that the other half has.
 fn high_kind(kind: u64, figures: &[u64]) -> Option<Line>
     ensures { result ≡ high_kind kind figures.now }
 {
@@ -186,6 +186,7 @@ fn stage(word: Word, numbers: &[u64]) -> Option<Said>
 fn call(heap: Global, word: Word, numbers: &[u64]) -> Result<Option<Said>, AllocError>
     ensures { IfOk result (λ o. option_map (meant vec_items) o ≡ call_of word numbers.now) }
 {
+    // Kept: a match on the word that was read; each arm is another function's line, and a table of functions would be no plainer.
     match word {
         Word::Line => Ok(line(numbers)),
         Word::Shed => shed(heap, numbers),

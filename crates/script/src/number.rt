@@ -6,7 +6,7 @@ ghost use Rattle.script.specs.Lines.{numbers_of, pairs};
 
 use payers::readings::Reading;
 use std::alloc::{AllocError, Global};
-use words::{cut, number};
+use words::number;
 
 // The numbers that the fields of a text write, if each field writes one. Where there is no text there are no fields.
 pub(crate) fn read_numbers(
@@ -16,14 +16,14 @@ pub(crate) fn read_numbers(
     ensures { IfOk result (λ o. option_map vec_items o ≡ numbers_of (following 32 fields.entry)) }
 {
     let mut numbers = Vec::new(heap);
-    let mut rest = fields;
-    while let Some(text) = rest {
-        let (field, after) = cut(text, b' ');
+    let Some(text) = fields else {
+        return Ok(Some(numbers));
+    };
+    for field in text.split(|b| *b == b' ') {
         let Some(n) = number(field) else {
             return Ok(None);
         };
         numbers.push(n)?;
-        rest = after;
     }
     Ok(Some(numbers))
 }
@@ -33,13 +33,11 @@ pub(crate) fn paired(heap: Global, numbers: &[u64]) -> Result<Vec<Reading>, Allo
     ensures { IfOk result (λ readings. readings.items ≡ pairs numbers.now) }
 {
     let mut readings = Vec::new(heap);
-    let mut rest = numbers;
-    while let [unit, kwh, after @ ..] = rest {
+    for pair in numbers.chunks_exact(2) {
         readings.push(Reading {
-            unit: *unit,
-            kwh: *kwh,
+            unit: pair[0],
+            kwh: pair[1],
         })?;
-        rest = after;
     }
     Ok(readings)
 }

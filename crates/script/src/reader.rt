@@ -31,12 +31,10 @@ pub fn read(heap: Global, bytes: &[u8]) -> Result<Script, Fault>
 {
     let mut calls = Vec::new(heap);
     let mut rest = bytes;
+    // Kept: `cut` gives the line and whether a line end follows it, which `split` does not tell.
     while !rest.is_empty() {
         let (line, after) = cut(rest, b'\n');
-        // Kept: the number of the line is worked out where there is a fault, and not, as for `ok_or`, for each line.
-        let Some(call) = read_line(heap, line)? else {
-            return Err(Fault::NoCall(calls.len() as u64 + 1));
-        };
+        let call = read_line(heap, line)?.ok_or_else(|| Fault::NoCall(calls.len() as u64 + 1))?;
         calls.push(call)?;
         rest = after.unwrap_or(b"");
     }

@@ -1,7 +1,8 @@
 -- A turn takes one line from what is left to what is done.
-use Rattle.std.proofs.Common.{◌≡◌, ◌+◌, ◌<◌, [], ◌∷◌, length, map, Ok, Err, vec_items, refl, sym, ap, ◌∙◌, arith, rules, length-append}
+use Rattle.std.proofs.Common.{◌≡◌, ◌+◌, ◌<◌, [], ◌∷◌, length, map, Ok, Err, Some, None, vec_items, refl, sym, ap, ◌∙◌, arith, rules, length-append}
 use Rattle.std.specs.Option.{option_map}
 use Rattle.std.proofs.lemmas.List.{map-append}
+use Rattle.std.proofs.lemmas.Result.{err_from_is_err_and}
 use Rattle.month.specs.Meant.{meant}
 use Rattle.script.specs.declared.fault.Fault.TheVariants.{NoCall}
 use Rattle.script.specs.Scripts.{lines_of, calls_from, reading}
@@ -16,31 +17,33 @@ turn c =
     let some : 0 < length c.loop-rest.rest.now = search rules in
     lines_turn c.loop-rest.rest.now c.cut.result.0.now c.cut.result.1 some c.cut.ensures
 
-pub returns-in_default : goal.returns-in_default
-returns-in_default c =
-    let t = turn (goal.at.returns-in_default c).After-cut in
+pub returns-in_err-call : goal.returns-in_err-call
+returns-in_err-call c =
+    let t = turn (goal.at.returns-in_err-call c).After-cut in
     let number = length (vec_items c.loop-rest.calls) + 1 in
-    let count : length (vec_items c.loop-rest.calls) ≡ c.len.result = search rules in
-    let value =
+    let none : c.in_ok-read_line.field-0 ≡ None = grind arith in
+    let fault : c.in_err-call.field-0.0 ≡ NoCall number = search rules in
+    let value : reading c.args.bytes.now ≡ Err (NoCall number) =
     c.loop-rest.invariant.gives
     ∙ ap (λ ls. after (map (meant vec_items) (vec_items c.loop-rest.calls)) (calls_from number ls)) t.0
-    ∙ line_bad (map (meant vec_items) (vec_items c.loop-rest.calls)) number c.cut.result.0.now (lines_of (text_after c.cut.result.1)) (sym c.in_ok-call.ensures.value ∙ ap (option_map (meant vec_items)) c.in_default.is)
-    ∙ ap (λ n. Err (NoCall (n + 1))) count in
-    record { value = value; exact = script_exact c.args.bytes.now (Err (NoCall (c.len.result + 1))) value }
+    ∙ line_bad (map (meant vec_items) (vec_items c.loop-rest.calls)) number c.cut.result.0.now (lines_of (text_after c.cut.result.1)) (sym c.in_ok-read_line.ensures.value ∙ ap (option_map (meant vec_items)) none) in
+    let p = err_from_is_err_and c.from_residual-in_err-call.result c.from_residual-in_err-call.ensures.1 in
+    rw (p.1, p.2, fault) (record { value = value; exact = script_exact c.args.bytes.now (Err (NoCall number)) value })
 
 pub loop-rest-preserved : goal.loop-rest-preserved
 loop-rest-preserved c =
     let t = turn (goal.at.loop-rest-preserved c).After-cut in
     let rest = after_end c.cut.result.1 c.unwrap_or-rest.result _ c.unwrap_or-rest.ensures refl in
     let items = c.in_ok-push.ensures.items in
-    let count = ap length items ∙ length-append (vec_items c.loop-rest.calls) (c.in-Some.call ∷ []) in
+    let some : c.in_ok-read_line.field-0 ≡ Some c.in_ok-call.call = grind arith in
+    let count = ap length items ∙ length-append (vec_items c.loop-rest.calls) (c.in_ok-call.call ∷ []) in
     record {
       short = omega (arith, t.1, ap length rest, count);
       gives =
           script_turn (reading c.args.bytes.now) (map (meant vec_items) (vec_items c.loop-rest.calls)) (map (meant vec_items) (vec_items c.push.new.self)) (length (vec_items c.loop-rest.calls) + 1) (length (vec_items c.push.new.self) + 1)
-          c.loop-rest.rest.now c.cut.result.0.now (text_after c.cut.result.1) c.unwrap_or-rest.result.now (meant vec_items c.in-Some.call)
-          c.loop-rest.invariant.gives t.0 (sym c.in_ok-call.ensures.value ∙ ap (option_map (meant vec_items)) c.in-Some.is)
-          (ap (map (meant vec_items)) items ∙ map-append (meant vec_items) (vec_items c.loop-rest.calls) (c.in-Some.call ∷ []))
+          c.loop-rest.rest.now c.cut.result.0.now (text_after c.cut.result.1) c.unwrap_or-rest.result.now (meant vec_items c.in_ok-call.call)
+          c.loop-rest.invariant.gives t.0 (sym c.in_ok-read_line.ensures.value ∙ ap (option_map (meant vec_items)) some)
+          (ap (map (meant vec_items)) items ∙ map-append (meant vec_items) (vec_items c.loop-rest.calls) (c.in_ok-call.call ∷ []))
           (ap (λ n. n + 1) count) rest;
     }
 
