@@ -8,3 +8,5 @@ mod limits;
 pub mod month;
 mod readings;
 pub mod refusal;
+#[cfg(test)]
+mod tests;
