@@ -4,3 +4,5 @@
 
 pub mod payments;
 pub mod refusal;
+#[cfg(test)]
+mod tests;
