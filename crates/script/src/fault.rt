@@ -14,7 +14,7 @@ pub enum Fault {
     NoCall(u64),
 }
 
-// Kept: the clauses of `read` tell the faults apart, and a derived conversion promises nothing of the fault that it gives.
+// Kept: tried with thiserror's derive: the clauses of `read` tell the faults apart, and a derived conversion promises nothing of the fault that it gives.
 impl From<AllocError> for Fault {
     ghost from_gives = { λ _ r. r ≡ Memory };
 
