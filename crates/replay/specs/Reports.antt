@@ -1,10 +1,12 @@
 -- What is printed of an outcome.
-use Rattle.std.specs.Prelude.{ℕ, zero, suc, ◌+◌, cond, List, [], ◌∷◌, ◌++◌, map, Some, None, Option, nat_lt, slice_index, codes, decimal}
+use Rattle.std.specs.Prelude.{ℕ, zero, suc, ◌+◌, ◌/◌, ◌%◌, cond, List, [], ◌∷◌, ◌++◌, map, Some, None, Option, nat_lt, slice_index, codes, decimal}
 use Rattle.std.specs.Fmt.{signed_decimal}
+use Rattle.std.specs.List.{zip, range_with_len, filter_map}
 use Rattle.month.specs.declared.figures.Figures.{Figures}
 use Rattle.month.specs.Refusals.{number}
 use Rattle.replay.specs.declared.report.Net.{Net}
 use Rattle.replay.specs.declared.report.Charge.{Charge}
+use Rattle.replay.specs.declared.report.Payment.{Payment}
 use Rattle.replay.specs.declared.report.Refused.{Refused}
 
 -- the figures of a company, if it is registered
@@ -35,12 +37,23 @@ unfoldable pub charges_of : ℕ → List (List ℕ) → List Charge
 charges_of zero pots = []
 charges_of (suc n) pots = charges_of n pots ++ charges_from (n + 1) 1 (column n pots)
 
--- the line of a company's figures, of a charge, and of a refusal
+-- the payment at an index of the table, entry (from − 1) × 32 + (to − 1), if it is above 0
+abbrev pub payment_at : ℕ → ℕ → Option Payment
+payment_at k cents = cond (nat_lt 0 cents) (Some (record { from = k / 32 + 1; to = k % 32 + 1; cents = cents })) None
+
+-- the payments above 0 of the first 1,024 entries of a table, in their order
+abbrev pub payments_in : List ℕ → List Payment
+payments_in table = filter_map (λ p. payment_at p.0 p.1) (zip (range_with_len 0 1_024) table)
+
+-- the line of a company's figures, of a charge, of a payment, and of a refusal
 abbrev pub net_text : Net → List ℕ
 net_text net = decimal net.company ++ 32 ∷ (decimal net.figures.credit ++ 32 ∷ (decimal net.figures.charge ++ 32 ∷ signed_decimal net.figures.net))
 
 abbrev pub charge_text : Charge → List ℕ
 charge_text charge = decimal charge.company ++ 32 ∷ (decimal charge.pot ++ 32 ∷ decimal charge.cents)
+
+abbrev pub payment_text : Payment → List ℕ
+payment_text payment = decimal payment.from ++ 32 ∷ (decimal payment.to ++ 32 ∷ decimal payment.cents)
 
 abbrev pub refused_text : Refused → List ℕ
 refused_text refused = codes "refused " ++ decimal (number refused.0)

@@ -1,4 +1,4 @@
-// Makes the calls of a script on a month, and prints the answer to each, and then the figures and the charges.
+// Makes the calls of a script on a month, and prints the answer to each, and then the figures, the charges and the payments.
 
 #![tactic(auto)]
 
@@ -10,9 +10,8 @@ use clearing::payments::ENTRIES;
 use history::replay::replay;
 use inputs::read_at_most;
 use month::figures::Outcome;
-use prorating::running::Running;
-use report::{Refused, charges, nets};
-use script::Fault;
+use report::{Refused, charges, nets, payments};
+use script::{Fault, lines_of_calls, payments_rule};
 use std::alloc::AllocError;
 use std::fmt::Display;
 use std::io;
@@ -60,22 +59,27 @@ fn print_lines<T: Display>(rt: &HostRuntime, title: &str, lines: &[T]) -> io::Re
     Ok(())
 }
 
-fn print_outcome(rt: &HostRuntime, outcome: &Outcome) -> Result<(), Failure> {
+fn print_outcome(
+    rt: &HostRuntime,
+    outcome: &Outcome,
+    table: &[u64; ENTRIES],
+) -> Result<(), Failure> {
     print_lines(rt, "nets", &nets(rt.alloc(), &outcome.figures)?)?;
     print_lines(rt, "charges", &charges(rt.alloc(), &outcome.charges)?)?;
+    print_lines(rt, "payments", &payments(rt.alloc(), table)?)?;
     Ok(())
 }
 
 fn run(rt: &HostRuntime) -> Result<(), Failure> {
     let bytes = input(rt)?;
-    let script = script::read(rt.alloc(), &bytes)?;
+    let script = script::read(rt.alloc(), lines_of_calls(&bytes))?;
     let calls = script.calls();
     let mut answers = vec![in rt.alloc(); 0; calls.len()]?;
-    let mut table = vec![in rt.alloc(); 0; ENTRIES]?;
-    let outcome = replay(calls, &mut answers, &Running, &mut table);
+    let mut table = [0; ENTRIES];
+    let outcome = replay(calls, &mut answers, &payments_rule(&bytes), &mut table);
     print_answers(rt, &answers)?;
     match outcome {
-        Ok(outcome) => print_outcome(rt, &outcome)?,
+        Ok(outcome) => print_outcome(rt, &outcome, &table)?,
         Err(refusal) => println!(rt; "{}", Refused(refusal))?,
     }
     Ok(())

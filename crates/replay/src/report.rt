@@ -1,6 +1,6 @@
-// What is printed of an outcome: the figures of the registered companies, and the charges above 0; and of a refusal.
+// What is printed of a month: the figures of the registered companies, and the charges and payments above 0; and of a refusal.
 ghost use Rattle.std.specs.Prelude.{◌≡◌, ◌+◌, ◌<◌, ◌++◌, Some, IfOk, OnOk};
-ghost use Rattle.replay.specs.Reports.{nets_from, column, charges_from, charges_of, net_text, charge_text, refused_text};
+ghost use Rattle.replay.specs.Reports.{nets_from, column, charges_from, charges_of, net_text, charge_text, payment_at, payments_in, payment_text, refused_text};
 
 use month::figures::Figures;
 use month::refusal::Refusal;
@@ -49,6 +49,23 @@ impl fmt::Display for Charge {
     }
 }
 
+// What one company pays to another.
+#[derive(Clone, Copy)]
+pub struct Payment {
+    pub from: u64,
+    pub to: u64,
+    pub cents: u64,
+}
+
+impl fmt::Display for Payment {
+    ghost output = { λ payment. Some (payment_text payment) };
+
+    fn fmt<W: fmt::Write>(&self, f: &mut fmt::Formatter<W>) -> fmt::Result {
+        let Payment { from, to, cents } = self;
+        write!(f, "{from} {to} {cents}")
+    }
+}
+
 // What is printed where there is no outcome.
 #[derive(Clone, Copy)]
 pub struct Refused(pub Refusal);
@@ -69,6 +86,29 @@ pub fn nets(heap: Global, figures: &[Option<Figures>; 32]) -> Result<Vec<Net>, A
     (1..33)
         .zip(figures)
         .filter_map(|(company, figures)| figures.map(|figures| Net { company, figures }))
+        .collect(heap)
+}
+
+// The payment at an index of the table, if it is above 0.
+fn paid(index: u64, cents: u64) -> Option<Payment>
+    requires { index < 1_024 }
+    ensures { result ≡ payment_at index cents }
+{
+    let payment = Payment {
+        from: index / 32 + 1,
+        to: index % 32 + 1,
+        cents,
+    };
+    (cents > 0).then_some(payment)
+}
+
+// The payments above 0, in rising order of those who pay, and for each of those who are paid.
+pub fn payments(heap: Global, table: &[u64; 1_024]) -> Result<Vec<Payment>, AllocError>
+    ensures { IfOk result (λ v. v.items ≡ payments_in table.now) }
+{
+    (0..1_024)
+        .zip(table)
+        .filter_map(|(index, cents)| paid(index, *cents))
         .collect(heap)
 }
 

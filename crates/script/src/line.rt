@@ -49,7 +49,7 @@ fn low_kind(kind: u64, figures: &[u64]) -> Option<Line>
 }
 
 // The line of a kind of 5 to 8 with these figures, if the kind has so many.
-// Kept: in two halves, since one match over the eight kinds is over forty lines, and needs no figure that the other half has.
+// Kept: in two halves, since one match over the eight kinds is over forty lines; neither half needs a figure of the other.
 fn high_kind(kind: u64, figures: &[u64]) -> Option<Line>
     ensures { result ≡ high_kind kind figures.now }
 {

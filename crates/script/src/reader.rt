@@ -31,7 +31,7 @@ pub fn read(heap: Global, bytes: &[u8]) -> Result<Script, Fault>
 {
     let mut calls = Vec::new(heap);
     let mut rest = bytes;
-    // Kept: `cut` gives the line and whether a line end follows it, which `split` does not tell.
+    // Kept: no plainer by `split_inclusive`, whose pieces have the line end, which would be taken off again.
     while !rest.is_empty() {
         let (line, after) = cut(rest, b'\n');
         let call = read_line(heap, line)?.ok_or_else(|| Fault::NoCall(calls.len() as u64 + 1))?;
