@@ -3,3 +3,5 @@
 #![tactic(auto)]
 
 pub mod replay;
+#[cfg(test)]
+mod tests;
