@@ -1,11 +1,12 @@
--- The worked figures of docs/RULES.md, docs/PAYERS.md and docs/WORTH.md: what the definitions of shares, charges, factors and worths have
--- to give, in one table.
+-- The worked figures of docs/RULES.md, docs/PAYERS.md, docs/WORTH.md and docs/CLEARING.md: what the definitions of shares, charges, factors, worths and
+-- payments have to give, in one table.
 use Rattle.std.specs.Prelude.{◌≡◌, ℕ, Bool, true, false, cond, ◌&&◌, List, [], ◌∷◌, take, replicate, ◌==◌}
 use Rattle.std.specs.List.{range_with_len}
 use Rattle.prorating.specs.Weights.{padded}
 use Rattle.prorating.specs.Running.{running}
 use Rattle.prorating.specs.Largest.{largest}
 use Rattle.payers.specs.Charges.{charges_of}
+use Rattle.clearing.specs.Payments.{row}
 use Rattle.payers.specs.Replacements.{replace_after, moved}
 use Rattle.worth.specs.declared.family.Family.TheVariants.{Frequency, Voltage}
 use Rattle.worth.specs.declared.line.Line.TheVariants.{UpwardAvailability, UpwardActivation, Downward, OverCost, Opportunity, ExtraFuel, ExtraResource, ExtraWithdrawal}
@@ -43,6 +44,13 @@ withdrawals = 100 ∷ 200 ∷ 400 ∷ replicate 29 0
 abbrev pub replaced : List ℕ
 replaced = replace_after (range_with_len 1 32) 1 3
 
+-- What companies 1 and 2 owe, and what is due to companies 3 and 4.
+abbrev pub debts : List ℕ
+debts = 10 ∷ 5 ∷ replicate 30 0
+
+abbrev pub dues : List ℕ
+dues = 0 ∷ 0 ∷ 7 ∷ 8 ∷ replicate 28 0
+
 abbrev pub table : List Row
 table =
     -- performance factors in a month of 720 hours
@@ -69,6 +77,9 @@ table =
     ∷ (first_three largest 45_001 (100 ∷ 200 ∷ 400 ∷ []) all_give 6_429 ∷ 12_857 ∷ 25_715 ∷ [])
     -- and the charges of the same pot where company 3 takes part for company 1
     ∷ (take 3 (charges_of running 45_001 (moved replaced withdrawals)) all_give 0 ∷ 12_857 ∷ 32_144 ∷ [])
+    -- payments of debts of 10 and 5 to whom 7 and 8 are due
+    ∷ (take 4 (row running debts dues 0) all_give 0 ∷ 0 ∷ 4 ∷ 6 ∷ [])
+    ∷ (take 4 (row running debts dues 1) all_give 0 ∷ 0 ∷ 3 ∷ 2 ∷ [])
     ∷ []
 
 abbrev pub same : List ℕ → List ℕ → Bool

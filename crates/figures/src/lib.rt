@@ -1,4 +1,4 @@
-// The worked figures of the documents, held against the definitions of `prorating`, `payers` and `worth`.
+// The worked figures of the documents, held against the definitions of `prorating`, `payers`, `worth` and `clearing`.
 
 #![tactic(auto)]
 
