@@ -1,5 +1,5 @@
-use Rattle.std.proofs.Common.{◌≡◌, ◌+◌, length, get_or, take, sum, sym, ap, ◌∙◌, arith}
-use Rattle.numbered.specs.Entries.{with_entry}
+use Rattle.std.proofs.Common.{◌≡◌, ◌≤◌, ℕ, ◌+◌, length, get_or, take, sum, sym, ap, ◌∙◌, arith}
+use Rattle.numbered.specs.Entries.{entry, with_entry}
 use Rattle.payers.specs.Bases.{weight_of}
 use Rattle.payers.specs.Zones.{zone_weights}
 use Rattle.payers.proofs.ReadingLists.{no_reading}
@@ -10,13 +10,20 @@ use Rattle.payers.proofs.zone.summed.Goals.{in-Some, in_default}
 pub loop-reading-init : goal.loop-reading-init
 loop-reading-init g c = sym (weights_none (g.O.Owners.owner c.args.owners.now) c.args.zone)
 
+-- whichever number the entry was asked for
 pub overflow_add-injected : goal.overflow_add-injected
 overflow_add-injected g c =
     let s = c.args.owners.now in
     let zone = c.args.zone in
-    let company = c.in-Some.company in
-    let here = ap (λ ws. weight_of ws company) c.loop-reading.invariant in
-    omega (arith, here, weight_fits (g.O.Owners.owner s) zone (g.met.O.Owners.company s) c.args.readings.now c.loop-reading.reading-index company c.requires c.loop-reading-test.true)
+    let rs = c.args.readings.now in
+    let i = c.loop-reading.reading-index in
+    let fits : (number : ℕ) → entry 32 0 c.loop-reading.kwh number + (get_or rs i no_reading).kwh ≤ 96_000_000 = λ number.
+    omega (
+      arith,
+      ap (λ ws. weight_of ws number) c.loop-reading.invariant,
+      weight_fits (g.O.Owners.owner s) zone (g.met.O.Owners.company s) rs i number c.requires c.loop-reading-test.true,
+    ) in
+    grind (arith, fits, c.entry_of.ensures)
 
 pub loop-reading-preserved : goal.loop-reading-preserved
 loop-reading-preserved g c =
