@@ -23,8 +23,8 @@ fn rank(remainders: &[u64; PLACES], k: usize) -> u64
     ensures { result ≡ rank_of remainders.now k }
 {
     (0..PLACES)
-        .filter(|j| comes_before(remainders, *j, k))
-        .count() as u64
+        .map(|j| u64::from(comes_before(remainders, j, k)))
+        .sum::<u64>()
 }
 
 // The odd cent of a rank: the lowest ranks get one each, as many as cents are left.
@@ -60,8 +60,8 @@ impl Rule for Largest {
             return [0; PLACES];
         };
         let each = weights.each();
-        let floors = each.map(|weight| shared.floor(weight));
-        let remainders = each.map(|weight| shared.remainder(weight));
+        let floors: [u64; PLACES] = array::from_fn(|k| shared.floor(each[k]));
+        let remainders: [u64; PLACES] = array::from_fn(|k| shared.remainder(each[k]));
         let left = pot - floors.iter().sum::<u64>();
         array::from_fn(|k| floors[k] + odd_cent(rank(&remainders, k), left))
     }
