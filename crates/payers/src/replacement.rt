@@ -121,7 +121,7 @@ impl<B: PayerBase> PayerBase for Replacement<B> {
         if !is_numbered(company, COMPANIES) {
             return 0;
         }
-        (1..=COMPANIES as u64)
+        (1..COMPANIES as u64 + 1)
             .map(|one| self.part(company, one))
             .sum()
     }
