@@ -7,7 +7,7 @@ use crate::base::{COMPANIES, PayerBase};
 use crate::charging::weights_of;
 use crate::replacement::{Replacement, Replacements};
 use numbered::entry_of;
-use prorating::weights::Weights;
+use prorating::weights::LIMIT;
 
 // The weight of each company, held as a list. The type keeps the total within the limit of a weight list.
 #[derive(Clone, Copy)]
@@ -29,8 +29,11 @@ impl CompanyWeights {
     pub fn of(weights: &[u64; COMPANIES]) -> Option<CompanyWeights>
         ensures { MatchOption result (limit < sum weights.now) (λ base. base.at ≡ weights.now) }
     {
+        let total = weights
+            .iter()
+            .fold(0_u64, |total, weight| total.saturating_add(*weight));
         // Kept: tried `then`; inside a closure the total's bound, which the type keeps, stayed open.
-        if Weights::of(weights).is_err() {
+        if total > LIMIT {
             return None;
         }
         Some(CompanyWeights { at: *weights })
