@@ -1,12 +1,14 @@
 -- Balances and payments.
-use Rattle.std.proofs.Common.{◌≡◌, ℕ, ◌-◌, ◌<◌, ◌≤◌, Bool, true, false, cond, not, ltb, List, length, Ok, Err, Result, sum_by, sum, sym, ap, ◌∙◌, subst, arith, lit≤}
+use Rattle.std.proofs.Common.{◌≡◌, ℕ, ◌+◌, ◌-◌, ◌<◌, ◌≤◌, Bool, true, false, cond, not, ltb, List, map, length, get_or, Ok, Err, Result, sum_by, sum, sym, ap, ◌∙◌, subst, arith, lit≤}
 use Rattle.std.specs.List.{range_with_len}
 use Rattle.std.proofs.lemmas.Bool.{cond-false, le-ltb}
+use Rattle.std.proofs.lemmas.List.FromFn.{length-map-range_with_len, get_or-map-range_with_len}
+use Rattle.prorating.specs.Counts.{same_places}
 use Rattle.prorating.specs.Laws.{Sharing}
 use Rattle.prorating.specs.Weights.{limit}
 use Rattle.payers.specs.Companies.{by_company}
 use Rattle.payers.specs.Replacements.{TakesPart, weight_moved}
-use Rattle.payers.specs.CompaniesLemmas.{by_company_sum}
+use Rattle.payers.specs.CompaniesLemmas.{by_company_long, by_company_at, by_company_sum}
 use Rattle.payers.specs.Moved.{moves}
 use Rattle.payers.specs.Runs.{sum_within}
 use Rattle.clearing.specs.Payments.{with_payments, pay_answer, pay_after}
@@ -19,6 +21,16 @@ use Rattle.month.specs.Figures.{charge_over}
 use Rattle.month.specs.Refusals.{of_clearing}
 use Rattle.month.specs.Steps.{on_ok}
 use Rattle.month.specs.Table.{Answer}
+
+-- by how much each entry of a list is above that of another
+pub above : (f g : ℕ → ℕ) (xs ys : List ℕ) → xs ≡ by_company f → ys ≡ by_company g → map (λ k. get_or xs k 0 - get_or ys k 0) (range_with_len 0 32) ≡ by_company (λ c. f c - g c)
+above f g xs ys first second =
+    let more : ℕ → ℕ = λ k. get_or xs k 0 - get_or ys k 0 in
+    same_places (map more (range_with_len 0 32)) (by_company (λ c. f c - g c)) 32 (length-map-range_with_len more 0 32) (by_company_long (λ c. f c - g c))
+    (λ k h.
+    let x : get_or xs k 0 ≡ f (k + 1) = ap (λ zs. get_or zs k 0) first ∙ by_company_at f k h in
+    let y : get_or ys k 0 ≡ g (k + 1) = ap (λ zs. get_or zs k 0) second ∙ by_company_at g k h in
+    get_or-map-range_with_len more 0 32 k k 0 h (omega arith) ∙ omega (arith, x, y) ∙ sym (by_company_at (λ c. f c - g c) k h))
 
 -- what is due is no more than what is credited
 pub dues_light : (ps earned : List ℕ) (charge : ℕ → ℕ) → ((k : ℕ) → k < 32 → TakesPart ps k) → length earned ≡ 32 → sum (by_company (λ c. weight_moved ps earned c - charge c)) ≤ sum earned

@@ -1,8 +1,9 @@
 // What a settled or final month answers.
 ghost use Rattle.std.specs.Prelude.{◌≡◌, ◌≤◌, true, false, MatchResult};
 ghost use Rattle.prorating.specs.Weights.{limit};
+ghost use Rattle.payers.specs.Companies.{by_company};
 ghost use Rattle.payers.specs.Replacements.{weight_moved};
-ghost use Rattle.month.specs.Answers.{is_charged, figures_answer, charge_answer, answer_if_any, outcome_answer};
+ghost use Rattle.month.specs.Answers.{is_charged, credit_in, figures_answer, charge_answer, answer_if_any, outcome_answer};
 ghost use Rattle.month.specs.Book.{book};
 ghost use Rattle.month.specs.declared.refusal.Refusal.TheVariants.{Stage as StageRefusal};
 
@@ -10,19 +11,28 @@ use super::{Charges, Month, Stage};
 use crate::figures::{Figures, Outcome};
 use crate::limits::outside;
 use crate::refusal::Refusal;
-use payers::base::PayerBase;
+use payers::base::{COMPANIES, PayerBase};
+use payers::charging::weights_of;
 use payers::replacement::Replacement;
+use payers::weights::CompanyWeights;
 use std::array;
 
 impl Month {
     // The charges of a settled or final month.
-    pub(super) fn charges(&self) -> Result<Charges, Refusal>
-        ensures { MatchResult result (λ c. (is_charged (book self.now).phase ≡ true) × (c.of_pots ≡ (book self.now).charges)) (λ e. (is_charged (book self.now).phase ≡ false) × (e ≡ StageRefusal)) }
+    pub(super) fn charges(&self) -> Result<&Charges, Refusal>
+        ensures { MatchResult result (λ c. (is_charged (book self.now).phase ≡ true) × (c.now.of_pots ≡ (book self.now).charges)) (λ e. (is_charged (book self.now).phase ≡ false) × (e ≡ StageRefusal)) }
     {
-        match self.stage {
+        match &self.stage {
             Stage::Settled(charges) | Stage::Final(charges) => Ok(charges),
             _ => Err(Refusal::Stage),
         }
+    }
+
+    // What the companies earned, under replacement.
+    fn credited(&self) -> Replacement<CompanyWeights>
+        ensures { (result.replacements.participants ≡ (book self.now).participants) × (result.base.at ≡ (book self.now).accounts.earned) }
+    {
+        Replacement::over(self.accounts.earnings(), self.replacements)
     }
 
     // What a company earned, with what those earned that it takes part for; 0 where it is replaced.
@@ -30,7 +40,14 @@ impl Month {
         ensures is { result ≡ weight_moved (book self.now).participants (book self.now).accounts.earned company }
         ensures small { result ≤ limit }
     {
-        Replacement::over(self.accounts.earnings(), self.replacements).weight(company)
+        self.credited().weight(company)
+    }
+
+    // What is credited to each company, that of company 1 first.
+    pub(super) fn credits(&self) -> [u64; COMPANIES]
+        ensures { result ≡ by_company (credit_in (book self.now)) }
+    {
+        weights_of(&self.credited())
     }
 
     // A company's credit, its charge over all pots and its net.

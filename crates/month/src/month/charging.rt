@@ -1,6 +1,7 @@
 // The charges of a settled month.
 ghost use Rattle.std.specs.Prelude.{◌≡◌, ℕ, ◌+◌, ◌*◌, ◌<◌, ◌≤◌, [], ◌++◌, slice_index, map, Some, None, MatchOption};
 ghost use Rattle.prorating.specs.Weights.{limit};
+ghost use Rattle.payers.specs.Companies.{by_company};
 ghost use Rattle.month.specs.Book.{book};
 ghost use Rattle.month.specs.Figures.{charge_at, charge_over};
 ghost use Rattle.month.specs.Pots.{pot_charges, charged as charged_by};
@@ -14,6 +15,7 @@ use payers::base::COMPANIES;
 use payers::charging::charges;
 use payers::replacement::Replacement;
 use prorating::rule::Rule;
+use std::array;
 use tables::accounts::{SERVICES, WeightedPot};
 
 impl Charges {
@@ -33,6 +35,13 @@ impl Charges {
             .iter()
             .map(|charges| entry_of(charges, company, 0))
             .sum()
+    }
+
+    // What each company is charged over all pots, that of company 1 first.
+    pub(super) fn over_all(&self) -> [u64; COMPANIES]
+        ensures { result ≡ by_company (charge_over self.now.of_pots) }
+    {
+        array::from_fn(|k| self.over(k as u64 + 1))
     }
 }
 

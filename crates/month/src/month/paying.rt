@@ -7,7 +7,7 @@ ghost use Rattle.month.specs.Figures.{charge_over};
 
 use super::{Charges, Month};
 use crate::refusal::Refusal;
-use clearing::payments::pay;
+use clearing::payments::{ENTRIES, pay};
 use payers::base::COMPANIES;
 use prorating::rule::Rule;
 use std::array;
@@ -21,28 +21,16 @@ pub struct Balances {
 }
 
 impl Month {
-    // By how much a company's charge is above its credit.
-    fn debt(&self, charges: &Charges, company: u64) -> u64
-        ensures { result ≡ charge_over charges.now.of_pots company - credit_in (book self.now) company }
-    {
-        charges.over(company).saturating_sub(self.credit(company))
-    }
-
-    // By how much its credit is above its charge.
-    fn due(&self, charges: &Charges, company: u64) -> u64
-        ensures { result ≡ credit_in (book self.now) company - charge_over charges.now.of_pots company }
-    {
-        self.credit(company).saturating_sub(charges.over(company))
-    }
-
     // By these charges: a company owes by how much its charge is above its credit, and is due by how much its credit is above its charge.
     fn balances(&self, charges: &Charges) -> Balances
         ensures debts { result.debts ≡ by_company (λ c. charge_over charges.now.of_pots c - credit_in (book self.now) c) }
         ensures dues { result.dues ≡ by_company (λ c. credit_in (book self.now) c - charge_over charges.now.of_pots c) }
     {
+        let credits = self.credits();
+        let charged = charges.over_all();
         Balances {
-            debts: array::from_fn(|k| self.debt(charges, k as u64 + 1)),
-            dues: array::from_fn(|k| self.due(charges, k as u64 + 1)),
+            debts: array::from_fn(|k| charged[k].saturating_sub(credits[k])),
+            dues: array::from_fn(|k| credits[k].saturating_sub(charged[k])),
         }
     }
 
@@ -52,7 +40,11 @@ impl Month {
         ensures after { table.new ≡ payments_after (R.Rule.shares rule.now) (book self.now) table.old }
     {
         let charges = self.charges()?;
-        let balances = self.balances(&charges);
+        // Kept: `pay` tests this too; here a table that is too short is refused before the balances are worked out.
+        if table.len() < ENTRIES {
+            return Err(Refusal::Short);
+        }
+        let balances = self.balances(charges);
         Ok(pay(&balances.debts, &balances.dues, rule, table)?)
     }
 }

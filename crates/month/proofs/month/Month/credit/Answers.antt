@@ -10,11 +10,10 @@ returns c =
     let m = c.args.self.now in
     let ps = m.replacements.participants in
     let earned = m.accounts.earned in
-    let base = ap (λ b. b.at) c.over.ensures.made.0 ∙ c.earnings.ensures in
     let is : c.weight.result ≡ weight_moved ps earned c.args.company =
     c.weight.ensures
-    ∙ ap (λ qs. weight_of (moved qs c.over.result.base.at) c.args.company) c.over.ensures.made.1
-    ∙ ap (λ ws. weight_of (moved ps ws) c.args.company) base
+    ∙ ap (λ qs. weight_of (moved qs c.credited.result.base.at) c.args.company) c.credited.ensures.0
+    ∙ ap (λ ws. weight_of (moved ps ws) c.args.company) c.credited.ensures.1
     ∙ moved_any ps m.replacements.each earned m.accounts.earned_long c.args.company in
     record {
       is = is;

@@ -12,6 +12,6 @@ unfolding outcome
 returns c =
     let told : ℕ → Option Figures = outcome_figures (book c.args.self.now) in
     let all : c.from_fn-figures.result ≡ map told (range_with_len 0 32) = made_by _ told _ (λ k y q called. search rules) _ 32 None c.from_fn-figures.ensures.items in
-    ap (λ fs. Ok (record { figures = fs; charges = c.in_ok-charges.charges.of_pots })) all
+    ap (λ fs. Ok (record { figures = fs; charges = c.in_ok-charges.charges.now.of_pots })) all
     ∙ ap (λ t. Ok (record { figures = map told (range_with_len 0 32); charges = t })) c.in_ok-charges.ensures.1
     ∙ sym (cond-true _ _ _ c.in_ok-charges.ensures.0)
