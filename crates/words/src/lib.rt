@@ -2,9 +2,8 @@
 
 #![tactic(auto)]
 
-ghost use Rattle.std.specs.Prelude.{◌≡◌, ◌==◌, position};
+ghost use Rattle.std.specs.Prelude.{◌≡◌, ◌==◌, ◌+◌, ◌-◌, ◌*◌, ◌^◌, ◌<◌, cond, Some, None, position};
 ghost use Rattle.std.specs.Char.{is_ascii_digit};
-ghost use Rattle.std.specs.List.{list_all};
 ghost use Rattle.words.specs.Words.{number_form, number_of, split, pieces};
 
 // Whether a field is as long as a number, and has no zero before another byte.
@@ -18,21 +17,25 @@ fn has_number_form(field: &[u8]) -> bool
     }
 }
 
-// Whether each byte of a field is a digit.
-fn is_digits(field: &[u8]) -> bool
-    ensures { result ≡ list_all is_ascii_digit field.now }
+// The number whose digits are those of `n` and then this one, if it is one.
+fn with_digit(n: u64, digit: &u8) -> Option<u64>
+    requires { n < 10 ^ 11 }
+    ensures { result ≡ cond (is_ascii_digit digit.now) (Some (n * 10 + (digit.now - 48))) None }
 {
-    field.iter().all(|b| b.is_ascii_digit())
+    if !digit.is_ascii_digit() {
+        return None;
+    }
+    Some(n * 10 + u64::from(*digit - b'0'))
 }
 
 // The number that a field writes, if it writes one.
 pub fn number(field: &[u8]) -> Option<u64>
     ensures { result ≡ number_of field.now }
 {
-    if !has_number_form(field) || !is_digits(field) {
+    if !has_number_form(field) {
         return None;
     }
-    str::from_utf8(field).ok()?.parse().ok()
+    field.iter().try_fold(0, with_digit)
 }
 
 // Where the first `mark` stands, if there is one.
