@@ -32,7 +32,7 @@ pub(crate) fn read_numbers(
 pub(crate) fn paired(heap: Global, numbers: &[u64]) -> Result<Vec<Reading>, AllocError>
     ensures { IfOk result (λ readings. readings.items ≡ pairs numbers.now) }
 {
-    let mut readings = Vec::new(heap);
+    let mut readings = Vec::with_capacity(heap, numbers.len() / 2)?;
     for pair in numbers.chunks_exact(2) {
         readings.push(Reading {
             unit: pair[0],
