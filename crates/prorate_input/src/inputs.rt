@@ -1,16 +1,16 @@
 // A pot and the weights that it is shared over, as an input gives them.
-ghost use Rattle.std.specs.Prelude.{◌≡◌, ◌≤◌, length};
-
-use arrayvec::ArrayVec;
+ghost use Rattle.std.specs.Prelude.{◌≡◌, ◌+◌, ◌<◌, ◌≤◌, length, take, replicate, slice_set};
 
 // How many weights an input may have.
 pub const MAX_WEIGHTS: usize = 48;
 
-#[derive(Clone, Drop)]
+#[derive(Clone, Copy)]
 pub struct Input {
-    pub(crate) pot: u64,
-    // The weights, in the order of the input.
-    pub(crate) weights: ArrayVec<u64, MAX_WEIGHTS>,
+    pot: u64,
+    // The weights, in the first `count` places.
+    weights: [u64; MAX_WEIGHTS],
+    pub(crate) count: usize,
+    ghost fits: { count ≤ 48 },
 }
 
 impl Input {
@@ -22,9 +22,33 @@ impl Input {
 
     // The weights, in the order of the input.
     pub fn weights(&self) -> &[u64]
-        ensures value { result.now ≡ self.now.weights.items }
+        ensures value { result.now ≡ take self.now.count self.now.weights }
         ensures few { length result.now ≤ 48 }
     {
-        self.weights.as_slice()
+        &self.weights[0..self.count]
+    }
+
+    // A pot with no weights yet.
+    pub(crate) fn without_weights(pot: u64) -> Input
+        ensures pot { result.pot ≡ pot }
+        ensures weights { result.weights ≡ replicate 48 0 }
+        ensures count { result.count ≡ 0 }
+    {
+        Input {
+            pot,
+            weights: [0; MAX_WEIGHTS],
+            count: 0,
+        }
+    }
+
+    // Adds a weight after the others.
+    pub(crate) fn add(&mut self, weight: u64)
+        requires { self.old.count < 48 }
+        ensures pot { self.new.pot ≡ self.old.pot }
+        ensures weights { self.new.weights ≡ slice_set self.old.weights self.old.count weight }
+        ensures count { self.new.count ≡ self.old.count + 1 }
+    {
+        self.weights[self.count] = weight;
+        self.count += 1;
     }
 }

@@ -7,22 +7,21 @@ ghost use Rattle.prorate_input.specs.Texts.{Exactly, Limited};
 
 use crate::faults::Fault;
 use crate::inputs::{Input, MAX_WEIGHTS};
-use arrayvec::ArrayVec;
 use words::{cut, number};
 
 // The pot, with the weights that the second line writes.
 fn read_weights(pot: u64, line: &[u8]) -> Result<Input, Fault>
     ensures { meaning result ≡ with_weights pot line.now }
 {
-    let mut weights = ArrayVec::new();
+    let mut input = Input::without_weights(pot);
     for field in line.split(|b| *b == b' ') {
-        if weights.is_full() {
+        if input.count == MAX_WEIGHTS {
             return Err(Fault::TooManyWeights);
         }
-        let place = weights.len() as u64 + 1;
-        weights.push(number(field).ok_or(Fault::BadWeight(place))?);
+        let place = input.count as u64 + 1;
+        input.add(number(field).ok_or(Fault::BadWeight(place))?);
     }
-    Ok(Input { pot, weights })
+    Ok(input)
 }
 
 // Whether nothing follows the second line.
