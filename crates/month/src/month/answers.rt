@@ -12,7 +12,6 @@ use crate::figures::{Figures, Outcome};
 use crate::limits::outside;
 use crate::refusal::Refusal;
 use payers::base::{COMPANIES, PayerBase};
-use payers::charging::weights_of;
 use payers::replacement::Replacement;
 use payers::weights::CompanyWeights;
 use std::array;
@@ -47,7 +46,10 @@ impl Month {
     pub(super) fn credits(&self) -> [u64; COMPANIES]
         ensures { result ≡ by_company (credit_in (book self.now)) }
     {
-        weights_of(&self.credited())
+        let credited = self.credited();
+        // Kept: weight by weight; with a second call of `weights_of` over this base the charges, which are most of the work of a
+        // settlement, would have it no longer inlined.
+        array::from_fn(|k| credited.weight(k as u64 + 1))
     }
 
     // A company's credit, its charge over all pots and its net.
