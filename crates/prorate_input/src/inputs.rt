@@ -1,5 +1,5 @@
 // A pot and the weights that it is shared over, as an input gives them.
-ghost use Rattle.std.specs.Prelude.{◌≡◌, ◌+◌, ◌<◌, ◌≤◌, length, take, replicate, slice_set};
+ghost use Rattle.std.specs.Prelude.{◌≡◌, ◌==◌, ◌+◌, ◌<◌, ◌≤◌, length, take, replicate, slice_set};
 
 // How many weights an input may have.
 pub const MAX_WEIGHTS: usize = 48;
@@ -39,6 +39,13 @@ impl Input {
             weights: [0; MAX_WEIGHTS],
             count: 0,
         }
+    }
+
+    // Whether there are as many weights as an input may have.
+    pub(crate) fn is_full(&self) -> bool
+        ensures { result ≡ (self.now.count == 48) }
+    {
+        self.count == MAX_WEIGHTS
     }
 
     // Adds a weight after the others.

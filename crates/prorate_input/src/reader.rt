@@ -6,7 +6,7 @@ ghost use Rattle.prorate_input.specs.Meaning.{meaning};
 ghost use Rattle.prorate_input.specs.Texts.{Exactly, Limited};
 
 use crate::faults::Fault;
-use crate::inputs::{Input, MAX_WEIGHTS};
+use crate::inputs::Input;
 use words::{cut, number};
 
 // The pot, with the weights that the second line writes.
@@ -15,7 +15,7 @@ fn read_weights(pot: u64, line: &[u8]) -> Result<Input, Fault>
 {
     let mut input = Input::without_weights(pot);
     for field in line.split(|b| *b == b' ') {
-        if input.count == MAX_WEIGHTS {
+        if input.is_full() {
             return Err(Fault::TooManyWeights);
         }
         let place = input.count as u64 + 1;

@@ -33,9 +33,9 @@ turn c =
 whole : (c : In-Some) → weights_from 1 (split 32 c.args.line.now) ≡ after (take c.loop-field.input.count c.loop-field.input.weights) (weights_from (c.loop-field.input.count + 1) (c.in-Some.field.now ∷ drop (length c.loop-field.yielded + 1) (split 32 c.args.line.now)))
 whole c = ap (weights_from 1) (turn c) ∙ c.loop-field.invariant.4 (c.in-Some.field.now ∷ drop (length c.loop-field.yielded + 1) (split 32 c.args.line.now))
 
-pub returns-then-input-eq-MAX_WEIGHTS : goal.returns-then-input-eq-MAX_WEIGHTS
-returns-then-input-eq-MAX_WEIGHTS c =
-    let all = whole (goal.at.returns-then-input-eq-MAX_WEIGHTS c).In-Some in
+pub returns-then-is_full : goal.returns-then-is_full
+returns-then-is_full c =
+    let all = whole (goal.at.returns-then-is_full c).In-Some in
     let full : 48 ≤ c.loop-field.input.count = grind (arith, nat_tests) in
     let many = too_many c.loop-field.input.count c.in-Some.field.now (drop (length c.loop-field.yielded + 1) (split 32 c.args.line.now)) full in
     sym (ap (λ m. and_then m (λ ws. Ok (c.args.pot, ws))) (all ∙ ap (after (take c.loop-field.input.count c.loop-field.input.weights)) many))
