@@ -25,7 +25,7 @@ PATTERNS = {
     "3 a loop over items that a method does": r"^for \w+ in \w+ \{ (if .*|let None = .*)$",
     "4 a conversion written by hand": r"fn (number|numbered)\((&self|number: u64)|^impl.* From<.*> for (Failure|Fault) ",
     "4 printing written by hand": r"println!\(rt; \"(\{|total \{).*\{|^impl fmt::Display for Failure",
-    "6 a buffer with a length, or an arena": r"^count: usize,|^pool: Vec",
+    "6 a buffer with a length, or an arena": r"^(pub\(crate\) )?count: usize,|^pool: Vec",
     "6 parallel arrays": r"^(pub )?\w+: \[(?!0|None|false)[^;]+; ([A-Z]\w*)\], (pub )?\w+: \[[^;]+; \2\],",
     "6 a list searched by hand": r"fn find\(|fn find_word\(",
     "7 a switch on which step to run": r"match (index|word) \{|^fn step\(|BuiltIn::Running => ",
